@@ -1,6 +1,8 @@
 -- Steps that stand behind those of later calls.
-use Rattle.std.proofs.Common.{◌≡◌, ◌≢◌, ◌⊎◌, ℕ, zero, suc, ◌<◌, ◌≤◌, Bool, true, false, cond, eqb, ltb, List, [], ◌∷◌, ◌++◌, length, get_or, refl, ap, inl, inr, arith}
-use Rattle.std.specs.Prelude.{All, ◌&&◌}
+use Rattle.std.proofs.Common.{◌≡◌, ◌≢◌, ◌⊎◌, ℕ, zero, suc, ◌<◌, ◌≤◌, Bool, true, false, cond, eqb, ltb, List, [], ◌∷◌, ◌++◌, ◌+◌, length, get_or, drop, refl, ap, sym, ◌∙◌, inl, inr, arith}
+use Rattle.std.specs.Prelude.{All, ◌&&◌, ◌||◌}
+use Rattle.std.proofs.Math.Bool.{or_assoc}
+use Rattle.std.proofs.lemmas.List.{drop_more}
 use Rattle.std.proofs.lemmas.Bool.{and_parts, both_ways, cases_lt, eq-eqb, eqb-true, le-ltb, lt-ltb, ltb-true, or_parts}
 use Rattle.place_words.specs.declared.history.LockHistory.{LockHistory}
 use Rattle.place_words.specs.declared.history.StrandStep.{StrandStep}
@@ -113,3 +115,19 @@ module _ (histories : List LockHistory) (number : ℕ) where
       by false is rest =
           let found = rest (or_later (eqb (of step) number && ltb number greatest) _ is late) in
           record { place = suc found.place; within = omega (arith, found.within); its = λ d. found.its d }
+
+-- of one step more
+pub late_more : (histories : List LockHistory) (number greatest : ℕ) (steps : List StrandStep) (k : ℕ) (step : StrandStep) → k < length steps → get_or steps k step ≡ step
+    → (called : ℕ) → called ≡ call_named histories step → (next : ℕ) → next ≡ greater greatest called
+    → (was now : Bool) → now ≡ (was || (eqb called number && ltb number greatest))
+    → (now || is_late_from histories number next (drop (k + 1) steps)) ≡ (was || is_late_from histories number greatest (drop k steps))
+late_more histories number greatest steps k step less here called called_is next next_is was now now_is =
+    let rest : List StrandStep = drop (k + 1) steps in
+    let late : ℕ → Bool = λ n. is_late_from histories number n rest in
+    let left : drop k steps ≡ step ∷ rest = drop_more steps k step less ∙ ap (λ (s : StrandStep). s ∷ rest) here in
+    let at : Bool = eqb called number && ltb number greatest in
+    ap (λ (b : Bool). b || late next) now_is
+    ∙ (ap (λ (n : ℕ). was || at || late n) next_is
+    ∙ (or_assoc was at (late (greater greatest called))
+    ∙ (ap (λ (n : ℕ). was || ((eqb n number && ltb number greatest) || late (greater greatest n))) called_is
+    ∙ sym (ap (λ (l : List StrandStep). was || is_late_from histories number greatest l) left))))

@@ -5,6 +5,7 @@ ghost use Rattle.std.specs.List.{list_all};
 ghost use Rattle.map_script.specs.WellFormed.{HasSizes, IsCallOn};
 ghost use Rattle.map_types.specs.Creation.{IsShape};
 ghost use Rattle.map_types.specs.Kind.{is_lru};
+ghost use Rattle.place_words.specs.StrandSteps.{row_read};
 ghost use Rattle.place_words.specs.Traces.{IsTrace};
 ghost use Rattle.place_words.specs.Turns.{TurnAt};
 ghost use Rattle.evicting_traces.specs.Reading as reading;
@@ -19,7 +20,7 @@ use evicting_traces::{Seens, read_call};
 use map_report::RunRecord;
 use map_script::Script;
 use map_types::{Call, List, NoMemory, Reply, Shape, Verb};
-use place_words::StrandStep;
+use place_words::StepRow;
 use replay_words::Note;
 use std::alloc::Global;
 
@@ -34,17 +35,17 @@ pub(crate) fn is_evicting_trace(
     histories: &Histories<'_>,
     call: &Call,
     reply: &Reply,
-    row: &[StrandStep],
+    row: StepRow<'_>,
 ) -> Result<bool, NoMemory>
     requires evicts { is_lru script.now.shape.kind ≡ true }
     requires record { MayBeJudged script.now kept.now notes.now }
     requires histories { histories.now ≡ record { shape = script.now.shape; all = kept.now.histories } }
     requires gone { gone.now ≡ gone_by_cpu script.now.shape kept.now.histories }
     requires call { IsCallOn script.now.shape call.now }
-    requires named { AreNamed script.now.shape kept.now.histories row.now }
-    requires its_cpu { list_all (is_of_cpu kept.now.histories call.now.cpu) row.now ≡ true }
-    ensures { IfOk result (λ is. MatchBool is (IsTraceOf script.now kept.now call.now reply.now row.now)
-        (IsTraceOf script.now kept.now call.now reply.now row.now → ⊥)) }
+    requires named { AreNamed script.now.shape kept.now.histories (row_read row) }
+    requires its_cpu { list_all (is_of_cpu kept.now.histories call.now.cpu) (row_read row) ≡ true }
+    ensures { IfOk result (λ is. MatchBool is (IsTraceOf script.now kept.now call.now reply.now (row_read row.entry))
+        (IsTraceOf script.now kept.now call.now reply.now (row_read row.entry) → ⊥)) }
 {
     let nothing = Note::Nothing;
     let known = Notes {

@@ -4,6 +4,7 @@ ghost use Rattle.std.specs.Prelude.{◌≡◌, ◌≤◌, ◌<◌, ◌+◌, ◌*
 ghost use Rattle.std.specs.Bool.{OnTrue};
 ghost use Rattle.std.specs.List.{list_any};
 ghost use Rattle.place_words.specs.Phases.{phase_of};
+ghost use Rattle.place_words.specs.StrandSteps.{row_read};
 ghost use Rattle.map_script.specs.WellFormed.{IsCallOn, IsWellFormed};
 ghost use Rattle.record_shape.specs.WellShaped.{WellShaped};
 ghost use Rattle.record_flaws.specs.StrandFlaws.{AreStrandsRight};
@@ -23,7 +24,7 @@ use crate::trace::is_trace;
 use map_report::RunRecord;
 use map_script::Script;
 use map_types::{Call, List, NoMemory, Reply};
-use place_words::{Strand, StrandStep};
+use place_words::{StepRow, Strand};
 use replay_words::Note;
 use std::alloc::Global;
 
@@ -96,17 +97,17 @@ pub(crate) fn is_right_at(
     let from = cursor_at(cursors.as_slice(), home);
     let to = run_end(&tables.histories, steps, from, number);
     set_cursor(cursors, home, to);
-    let row = &steps[from..to];
+    let row = steps.behind(from).first(to - from);
     let right = is_right_row(alloc, script, kept, notes, tables, number, call, reply, row)?;
     Ok(right)
 }
 
 /// The steps of a strand.
-fn steps_at(strands: &[Strand], place: usize) -> &[StrandStep]
+fn steps_at(strands: &[Strand], place: usize) -> StepRow<'_>
     requires { place < length strands.now }
-    ensures { (strand : _) → slice_get strands.now place ≡ Some strand → result.now ≡ strand.steps }
+    ensures { (strand : _) → slice_get strands.now place ≡ Some strand → row_read result ≡ strand.steps }
 {
-    strands[place].steps.as_slice()
+    strands[place].steps.row()
 }
 
 /// The cursor of a strand.
@@ -146,16 +147,16 @@ fn is_right_row(
     number: u32,
     call: &Call,
     reply: &Reply,
-    row: &[StrandStep],
+    row: StepRow<'_>,
 ) -> Result<bool, NoMemory>
     requires record { MayBeJudged script.now kept.now notes.now }
     requires tables { AreTables script.now kept.now tables.now.histories tables.now.spares.first.items tables.now.spares.changes.items tables.now.strand_of.items tables.now.late.items tables.now.gone.items }
     requires number { number ≤ length script.now.calls }
     requires call { IsCallOn script.now.shape call.now }
-    requires steps { StepsFit script.now.shape row.now }
-    requires named { AreNamed script.now.shape kept.now.histories row.now }
-    ensures { IfOk result (λ is. MatchBool is (IsRightRow script.now kept.now number call.now reply.now row.now)
-        (IsRightRow script.now kept.now number call.now reply.now row.now → ⊥)) }
+    requires steps { StepsFit script.now.shape (row_read row) }
+    requires named { AreNamed script.now.shape kept.now.histories (row_read row) }
+    ensures { IfOk result (λ is. MatchBool is (IsRightRow script.now kept.now number call.now reply.now (row_read row.entry))
+        (IsRightRow script.now kept.now number call.now reply.now (row_read row.entry) → ⊥)) }
 {
     if tables.late[number as usize] {
         return Ok(false);

@@ -2,11 +2,12 @@
 
 ghost use Rattle.std.specs.Prelude.{◌≡◌, ◌+◌, ◌≤◌, ◌<◌, ◌==◌, ◌&&◌, ◌||◌, nat_lt, ◌^◌, ℕ, All, IfOk, false, length, slice_index_or};
 ghost use Rattle.std.specs.List.{list_any};
+ghost use Rattle.place_words.specs.StrandSteps.{row_read};
 ghost use Rattle.call_check.specs.Steps.{StepsFit, greater, is_late, is_late_from};
 
 use crate::histories::Histories;
 use map_types::NoMemory;
-use place_words::{Strand, StrandStep};
+use place_words::{StepRow, Strand};
 use std::alloc::Global;
 
 /// Of each call, by its number, whether in a strand a step of it stands behind one of a later call.
@@ -24,7 +25,7 @@ pub(crate) fn late_calls(
 {
     let mut late = none_late(alloc, calls + 1)?;
     for strand in strands {
-        mark_late(histories, strand.steps.as_slice(), &mut late);
+        mark_late(histories, strand.steps.row(), &mut late);
     }
     Ok(late)
 }
@@ -38,15 +39,15 @@ fn none_late(alloc: Global, count: usize) -> Result<Vec<bool>, NoMemory>
 }
 
 /// Marks the calls of which a step stands behind one of a later call.
-fn mark_late(histories: &Histories<'_>, steps: &[StrandStep], late: &mut Vec<bool>)
-    requires { StepsFit histories.now.shape steps.now }
+fn mark_late(histories: &Histories<'_>, steps: StepRow<'_>, late: &mut Vec<bool>)
+    requires { StepsFit histories.now.shape (row_read steps) }
     ensures size { length late.new.items ≡ length late.old.items }
     ensures late { (number : ℕ) → number < length late.old.items → slice_index_or late.new.items number false
-        ≡ (slice_index_or late.old.items number false || is_late_from histories.now.all number 0 steps.now) }
+        ≡ (slice_index_or late.old.items number false || is_late_from histories.now.all number 0 (row_read steps.entry)) }
 {
     let mut greatest = 0;
-    for step in steps {
-        let number = histories.call_of(*step);
+    for place in 0..steps.len() {
+        let number = histories.call_of(steps.at(place));
         mark_below(late, number, greatest);
         greatest = greater(greatest, number);
     }

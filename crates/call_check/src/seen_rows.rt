@@ -1,6 +1,7 @@
 //! The turns that steps name on a map that evicts, with what was noted of their moments.
 
 ghost use Rattle.std.specs.Prelude.{◌≡◌, ◌∷◌, [], IfOk, false, slice_index_or};
+ghost use Rattle.place_words.specs.StrandSteps.{row_read};
 ghost use Rattle.evicting_traces.specs.Reading as reading;
 ghost use Rattle.call_check.specs.PlainRows.{AreNamed, IsNamed};
 ghost use Rattle.call_check.specs.RightCalls.{turns_named};
@@ -9,7 +10,7 @@ ghost use Rattle.call_check.specs.SeenRows.{AreKnown, gone_at, note_in, noted_at
 use crate::histories::Histories;
 use evicting_traces::Seen;
 use map_types::{DomainId, List, NoMemory, Shape};
-use place_words::StrandStep;
+use place_words::{StepRow, StrandStep};
 use replay_words::Note;
 use std::alloc::Global;
 
@@ -30,16 +31,16 @@ pub(crate) fn seen_row<'a>(
     shape: &Shape,
     histories: &Histories<'a>,
     notes: &Notes<'a>,
-    row: &[StrandStep],
+    row: StepRow<'_>,
 ) -> Result<Vec<Seen<'a>>, NoMemory>
     requires shape { histories.now.shape ≡ shape.now }
     requires known { AreKnown shape.now histories.now.all notes.now.of_locks.now notes.now.gone.now notes.now.nothing.now }
-    requires named { AreNamed shape.now histories.now.all row.now }
-    ensures { IfOk result (λ seens. seens.items ≡ reading.all_seen shape.now (turns_named histories.now.all row.now)) }
+    requires named { AreNamed shape.now histories.now.all (row_read row) }
+    ensures { IfOk result (λ seens. seens.items ≡ reading.all_seen shape.now (turns_named histories.now.all (row_read row.entry))) }
 {
     let mut seens = Vec::new(alloc);
-    for step in row {
-        seens.push(seen_at(shape, histories, notes, *step))?;
+    for place in 0..row.len() {
+        seens.push(seen_at(shape, histories, notes, row.at(place)))?;
     }
     Ok(seens)
 }

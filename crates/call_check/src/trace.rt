@@ -4,6 +4,7 @@ ghost use Rattle.std.specs.Prelude.{◌≡◌, ◌<◌, IfOk, MatchBool, false, 
 ghost use Rattle.std.specs.List.{list_all};
 ghost use Rattle.map_types.specs.Kind.{is_lru};
 ghost use Rattle.place_words.specs.Locks.{is_lock};
+ghost use Rattle.place_words.specs.StrandSteps.{row_read};
 ghost use Rattle.map_script.specs.WellFormed.{IsCallOn, IsWellFormed};
 ghost use Rattle.record_shape.specs.WellShaped.{WellShaped};
 ghost use Rattle.call_check.specs.Judged.{AreTables, IsTraceOf, MayBeJudged};
@@ -17,7 +18,7 @@ use crate::spares::spare_before;
 use map_report::RunRecord;
 use map_script::Script;
 use map_types::{Call, List, NoMemory, Reply};
-use place_words::StrandStep;
+use place_words::{StepRow, StrandStep};
 use replay_words::Note;
 use std::alloc::Global;
 use trace_check::{Turns, read_call};
@@ -31,15 +32,15 @@ pub(crate) fn is_trace(
     tables: &Tables<'_>,
     call: &Call,
     reply: &Reply,
-    row: &[StrandStep],
+    row: StepRow<'_>,
 ) -> Result<bool, NoMemory>
     requires record { MayBeJudged script.now kept.now notes.now }
     requires tables { AreTables script.now kept.now tables.now.histories tables.now.spares.first.items tables.now.spares.changes.items tables.now.strand_of.items tables.now.late.items tables.now.gone.items }
     requires call { IsCallOn script.now.shape call.now }
-    requires named { AreNamed script.now.shape kept.now.histories row.now }
-    requires its_cpu { list_all (is_of_cpu kept.now.histories call.now.cpu) row.now ≡ true }
-    ensures { IfOk result (λ is. MatchBool is (IsTraceOf script.now kept.now call.now reply.now row.now)
-        (IsTraceOf script.now kept.now call.now reply.now row.now → ⊥)) }
+    requires named { AreNamed script.now.shape kept.now.histories (row_read row) }
+    requires its_cpu { list_all (is_of_cpu kept.now.histories call.now.cpu) (row_read row) ≡ true }
+    ensures { IfOk result (λ is. MatchBool is (IsTraceOf script.now kept.now call.now reply.now (row_read row.entry))
+        (IsTraceOf script.now kept.now call.now reply.now (row_read row.entry) → ⊥)) }
 {
     if !script.shape.kind.is_lru() {
         let is = is_plain_trace(alloc, script, kept, tables, call, reply, row)?;
@@ -61,16 +62,16 @@ fn is_plain_trace(
     tables: &Tables<'_>,
     call: &Call,
     reply: &Reply,
-    row: &[StrandStep],
+    row: StepRow<'_>,
 ) -> Result<bool, NoMemory>
     requires plain { is_lru script.now.shape.kind ≡ false }
     requires script { IsWellFormed script.now }
     requires shaped { WellShaped script.now kept.now }
     requires tables { AreTables script.now kept.now tables.now.histories tables.now.spares.first.items tables.now.spares.changes.items tables.now.strand_of.items tables.now.late.items tables.now.gone.items }
     requires call { IsCallOn script.now.shape call.now }
-    requires named { AreNamed script.now.shape kept.now.histories row.now }
-    ensures { IfOk result (λ is. MatchBool is (IsTraceOf script.now kept.now call.now reply.now row.now)
-        (IsTraceOf script.now kept.now call.now reply.now row.now → ⊥)) }
+    requires named { AreNamed script.now.shape kept.now.histories (row_read row) }
+    ensures { IfOk result (λ is. MatchBool is (IsTraceOf script.now kept.now call.now reply.now (row_read row.entry))
+        (IsTraceOf script.now kept.now call.now reply.now (row_read row.entry) → ⊥)) }
 {
     let spares = spares_at(alloc, script, kept, tables, call.cpu, row)?;
     let turns = Turns::of(&script.shape, kept.histories.as_slice(), row);
@@ -94,16 +95,16 @@ fn spares_at(
     kept: &RunRecord,
     tables: &Tables<'_>,
     cpu: u32,
-    row: &[StrandStep],
+    row: StepRow<'_>,
 ) -> Result<Vec<Option<u32>>, NoMemory>
     requires tables { AreTables script.now kept.now tables.now.histories tables.now.spares.first.items tables.now.spares.changes.items tables.now.strand_of.items tables.now.late.items tables.now.gone.items }
     requires cpu { cpu < script.now.shape.cpus }
-    requires named { AreNamed script.now.shape kept.now.histories row.now }
-    ensures { IfOk result (λ spares. spares.items ≡ spares_at script.now.cuts script.now.shape kept.now.histories cpu row.now) }
+    requires named { AreNamed script.now.shape kept.now.histories (row_read row) }
+    ensures { IfOk result (λ spares. spares.items ≡ spares_at script.now.cuts script.now.shape kept.now.histories cpu (row_read row.entry)) }
 {
     let mut spares = Vec::new(alloc);
-    for step in row {
-        spares.push(spare_at(script, kept, tables, cpu, *step))?;
+    for place in 0..row.len() {
+        spares.push(spare_at(script, kept, tables, cpu, row.at(place)))?;
     }
     Ok(spares)
 }

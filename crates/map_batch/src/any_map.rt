@@ -74,6 +74,7 @@ impl AnyMap {
     /// Copies to `out` what a side reads of a key: on the per-CPU kinds the value of the pass's CPU for a program, and those of
     /// all CPUs for the system call; else the value. `out` has as many bytes. It is `Absent` (ENOENT), and `out` as it was,
     /// exactly where the bucket's turn found no such key.
+    #[inline(always)]
     pub fn lookup<R: Wait, G: Gate>(
         &self,
         rt: &R,
@@ -101,6 +102,7 @@ impl AnyMap {
     /// `Enomem` only of one that does, and shows why no element was found. It takes no memory that it needs: where memory for the
     /// entry of the key's bucket isn't found, the record of that bucket's turns is lost, and the answer is the same. A map that
     /// doesn't evict gives back no other lock without a part. The rules are those of `PlainMap::update` and `LruMap::update`.
+    #[inline(always)]
     pub fn update<R: Wait, G: Gate>(
         &self,
         rt: &R,
@@ -129,6 +131,7 @@ impl AnyMap {
     }
 
     /// Takes a key out of the map. It is `Absent` (ENOENT) exactly where the bucket's turn found no such key.
+    #[inline(always)]
     pub fn delete<R: Wait, G: Gate>(
         &self,
         rt: &R,

@@ -5,11 +5,11 @@ ghost use Rattle.std.specs.List.{flat_map};
 ghost use Rattle.place_words.specs.Entries.{entry_read, part_read};
 ghost use Rattle.map_report.specs.History.{entry_line, history_lines, joined, lock_line, lock_lines, part_text, phase_line, phase_lines, phase_name, record_line, step_line, strand_line, strand_lines};
 
-use crate::lines::{Lines, Section, add_each, add_numbered};
+use crate::lines::{Lines, Section, add_numbered};
 use crate::piece::{Piece, push_decimal, push_each, push_number};
 use crate::words::push_lock;
 use crate::{PhaseStart, RunRecord};
-use place_words::{Entries, EntryAt, LockHistory, PartAt, Strand, StrandStep};
+use place_words::{Entries, EntryAt, LockHistory, PartAt, Strand, StrandStep, StrandSteps};
 use std::alloc::AllocError;
 
 /// Adds each lock that has an entry with its entries, then, of a script of version 2, the start of each phase, and then
@@ -182,7 +182,18 @@ fn add_strands<L: Lines>(lines: &mut L, version: u32, strands: &[Strand]) -> Res
 {
     for strand in strands {
         lines.add(&StrandLine { version, strand })?;
-        add_each(lines, strand.steps.as_slice())?;
+        add_steps(lines, &strand.steps)?;
+    }
+    Ok(())
+}
+
+/// Adds a line for each of the steps of a strand.
+fn add_steps<L: Lines>(lines: &mut L, steps: &StrandSteps) -> Result<(), AllocError>
+    ensures { OnOk result (L.written lines.new
+        ≡ L.written lines.old ++ flat_map L.line (map step_line steps.now)) }
+{
+    for place in 0..steps.len() {
+        lines.add(&steps.at(place))?;
     }
     Ok(())
 }

@@ -25,6 +25,7 @@ use std::sync::Wait;
 const SHORT: usize = 64;
 
 /// Runs a call of this number on its CPU, and gives its answer.
+#[inline(always)]
 pub(crate) fn run_call<R: Wait, G: Gate>(
     rt: &R,
     alloc: Global,

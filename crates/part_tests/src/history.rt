@@ -4,7 +4,7 @@ ghost use Rattle.std.specs.Prelude.{◌≡◌, ◌≢◌, MatchBool};
 ghost use Rattle.place_words.specs.Entries.{entry_read};
 
 use crate::{Same, same_part};
-use place_words::{Entries, Entry, EntryAt, LockHistory, Part, Strand};
+use place_words::{Entries, Entry, EntryAt, LockHistory, Part, Strand, StrandSteps};
 
 impl Same for Part {
     fn same(&self, other: &Part) -> bool {
@@ -46,6 +46,20 @@ impl Same for Entries {
 impl Same for LockHistory {
     fn same(&self, other: &LockHistory) -> bool {
         self.lock.same(&other.lock) && self.entries.same(&other.entries)
+    }
+}
+
+impl Same for StrandSteps {
+    fn same(&self, other: &StrandSteps) -> bool {
+        if self.len() != other.len() {
+            return false;
+        }
+        for place in 0..self.len() {
+            if !self.at(place).same(&other.at(place)) {
+                return false;
+            }
+        }
+        true
     }
 }
 

@@ -7,7 +7,7 @@ use denote.Param.Send.{IsSend, IsSync, plain_send, shr_send, shr_sync, array_sen
 use denote.Struct.Declared.{shape}
 use denote.Enum.Declared as E
 use denote.Builtin.{bool}
-use Rattle.std.proofs.Crossing.{Vec-send, frees, send, sync}
+use Rattle.std.proofs.Crossing.{frees, send, sync}
 use Rattle.std.proofs.alloc.Global.TheSendSync as heap
 use Rattle.std.specs.contracts.option.Option as Option
 use Rattle.std.specs.contracts.vec.Vec as Vec
@@ -21,8 +21,7 @@ use Rattle.local_lists.proofs.Crossing.{local_send}
 use Rattle.lru_lists.proofs.Crossing.{set_send}
 use Rattle.linked_rows.specs.contracts.linked.LinkedRows as LinkedRows
 use Rattle.linked_rows.proofs.linked.LinkedRows.TheSendSync as linked
-use Rattle.place_words.specs.contracts.history.StrandStep as StrandStep
-use Rattle.place_words.proofs.history.StrandStep.TheSendSync as strand
+use Rattle.place_words.proofs.strand_steps.StepBuffer.TheSendSync as strand
 use Rattle.atomic_table.proofs.shared.Seat.TheSendSync as seat
 use Rattle.atomic_table.proofs.owned.Table.TheSendSync as table
 use Rattle.map_types.specs.contracts.attr.Shape as Shape
@@ -69,7 +68,7 @@ pass_send = view_send InPass.the_row _ _ _ _ (recorded_send (InPass.the_field).r
       (
         array_send bool 16 (plain_send _ _ _ _ _),
         (
-          Vec-send StrandStep.the_row strand.the_send,
+          strand.the_field_send,
           (made.the_field_send, (array_send _ 16 (whole_send BoxedBody.the_row boxed_send), tt)),
         ),
       ),

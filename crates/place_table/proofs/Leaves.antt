@@ -1,8 +1,8 @@
 -- What is left of the slots of a closed table.
-use Rattle.std.proofs.Common.{◌≡◌, ℕ, zero, suc, ◌+◌, ◌<◌, ◌≤◌, Bool, true, false, cond, List, [], ◌∷◌, ◌++◌, length, get_or, get_or-set_other, get_or-set_same, set, eqb, take, drop, map, nat_lt, ⊎_elim, sym, refl, ap, ◌∙◌, add-one, append-nil, subst, arith, ◌⊎◌, ◌≢◌, ◌-◌, ltb, Option, Some, None, Global}
+use Rattle.std.proofs.Common.{◌≡◌, ℕ, zero, suc, ◌+◌, ◌<◌, ◌≤◌, Bool, true, false, cond, List, [], ◌∷◌, ◌++◌, length, get_or, get_or-set_other, get_or-set_same, set, eqb, take, drop, map, nat_lt, ⊎_elim, sym, refl, ap, ◌∙◌, add-one, append-nil, subst, arith, ◌⊎◌, inr, ◌≢◌, ◌-◌, ltb, Option, Some, None, Global}
 use mathlib.Core.Option.{some, some-injective, some-ne-none}
 use lib.ListN.{get_elem?}
-use Rattle.std.specs.Prelude.{IsTrue, IsOk, OnOk, Result, Ok, Err, not, filter, slice_get, ◌||◌, ◌&&◌, option_map, option_to_list, unwrap_or}
+use Rattle.std.specs.Prelude.{IsTrue, IsOk, IfOk, OnOk, vec_capacity, Result, Ok, Err, not, filter, slice_get, ◌||◌, ◌&&◌, option_map, option_to_list, unwrap_or}
 use Rattle.std.specs.List.{flat_map, range_with_len, list_any}
 use Rattle.std.proofs.lemmas.Bool.{cases_Bool, cases_eq, cond_both, false≢true, ltb-true, ltb-false}
 use Rattle.std.proofs.lemmas.Grind.{flat_map-append}
@@ -41,7 +41,9 @@ use Rattle.place_table.specs.declared.content.Content.TheVariants as lying
 use Rattle.place_table.specs.Contents.{content_told, FitsLock}
 use Rattle.place_table.specs.Closing.{AreSlots, has_lock, all_locks, history_of, state_left}
 use Rattle.place_table.proofs.Worlds.{by_bool}
-use Rattle.place_table.specs.Leaving.{Logs, bodies_in, numbers_in, set_in, locals_in, freelists_in, sets_in, all_locals_in, spares_in, HasSizedBodies, IsCount, IsSlotHistory, HaveHistories, AreApart, AreContents, AreCounts, AreKept, AreTaken}
+use Rattle.place_table.specs.declared.close.Emptied.{Emptied}
+use Rattle.place_table.specs.declared.lists_left.ListsLeft.{ListsLeft}
+use Rattle.place_table.specs.Leaving.{Logs, bodies_in, numbers_in, set_in, locals_in, freelists_in, sets_in, all_locals_in, spares_in, HasSizedBodies, IsCount, IsSlotHistory, HaveHistories, HaveTurnsFrom, IsEmptied, AreApart, AreContents, AreCounts, AreKept, AreTaken}
 
 -- one body more of a copy
 pub take_body : (bodies done now : List Stored) (place : ℕ) (body : Stored) → done ≡ take place bodies → slice_get bodies place ≡ Some body → now ≡ done ++ body ∷ [] → now ≡ take (place + 1) bodies
@@ -368,16 +370,16 @@ module _ (shape : Shape) (log : Logs) (bit : ℕ → Bool) (spares : List (Optio
       (cases_Bool shape.common)
 
   -- all that is handed out of the map
-  pub finals_left : (lists freelists : List (Option Content)) (buckets : List (List Stored)) (finals : Finals) → AreApart shape contents lists freelists buckets
+  pub finals_left : (lists : ListsLeft) (freelists : List (Option Content)) (buckets : List (List Stored)) (finals : Finals) → AreApart shape contents lists freelists buckets
       → finals.buckets ≡ buckets → finals.freelists ≡ freelists_in shape freelists → finals.spares ≡ spares_in shape spares
-      → finals.sets ≡ sets_in shape lists → finals.locals ≡ all_locals_in shape lists → finals.marked ≡ filter bit (range_with_len 0 shape.elements)
+      → finals.sets ≡ lists.sets.items → finals.locals ≡ lists.locals.items → finals.marked ≡ filter bit (range_with_len 0 shape.elements)
       → finals ≡ finals_of shape (state_left shape log bit spares)
   unfolding finals_of
   finals_left lists freelists buckets finals apart buckets_are freelists_are spares_are sets locals marked =
       let all_buckets = buckets_told finals.buckets (buckets_are ∙ apart.buckets_are) in
       let all_freelists = freelists_told finals.freelists (freelists_are ∙ ap (freelists_in shape) apart.freelists_are) in
-      let all_sets = sets_told finals.sets (sets ∙ ap (sets_in shape) apart.lists_are) in
-      let all_locals = locals_told finals.locals (locals ∙ ap (all_locals_in shape) apart.lists_are) in
+      let all_sets = sets_told finals.sets (sets ∙ apart.sets_are) in
+      let all_locals = locals_told finals.locals (locals ∙ apart.locals_are) in
       λ i. record { buckets = all_buckets i; freelists = all_freelists i; spares = spares_are i; sets = all_sets i; locals = all_locals i; marked = marked i }
 
 bucket_sized : (shape : Shape) (bucket : ℕ) (here : Content) → FitsLock shape (named.Bucket bucket) here → HasSizedBodies shape (Some here)
@@ -440,21 +442,33 @@ bodies_apart : (slots : List Behind) → map (λ (behind : Behind). bodies_in be
 bodies_apart [] = refl
 bodies_apart (slot ∷ slots) = ap (λ (l : List (List Stored)). bodies_in slot.content ∷ l) (bodies_apart slots)
 
-pub all_apart : (shape : Shape) (slots : List Behind) (lists freelists : List (Option Content)) (buckets : List (List Stored)) → length slots ≡ lock_count shape
+pub all_apart : (shape : Shape) (slots : List Behind) (lists freelists : List (Option Content)) (left : ListsLeft) (buckets : List (List Stored)) → length slots ≡ lock_count shape
     → take (first_bucket shape) (map (λ (behind : Behind). behind.content) slots) ≡ take 0 (map (λ (behind : Behind). behind.content) slots) ++ lists
     → take (first_freelist shape) (map (λ (behind : Behind). bodies_in behind.content) slots) ≡ take (first_bucket shape) (map (λ (behind : Behind). bodies_in behind.content) slots) ++ buckets
     → take (lock_count shape) (map (λ (behind : Behind). behind.content) slots) ≡ take (first_freelist shape) (map (λ (behind : Behind). behind.content) slots) ++ freelists
-    → AreApart shape (map (λ (behind : Behind). behind.content) slots) lists freelists buckets
-all_apart shape slots lists freelists buckets counted front middle back =
+    → left.sets.items ≡ sets_in shape lists → left.locals.items ≡ all_locals_in shape lists
+    → AreApart shape (map (λ (behind : Behind). behind.content) slots) left freelists buckets
+all_apart shape slots lists freelists left buckets counted front middle back sets locals =
     let contents : List (Option Content) = map (λ (behind : Behind). behind.content) slots in
     let bodies : List (List Stored) = map (λ (behind : Behind). bodies_in behind.content) slots in
     let long : length contents ≡ lock_count shape = length-map slots (λ (behind : Behind). behind.content) ∙ counted in
     let many : length bodies ≡ lock_count shape = length-map slots (λ (behind : Behind). bodies_in behind.content) ∙ counted in record {
-      lists_are = rest_of contents lists 0 (first_bucket shape) (omega arith) front;
+      sets_are = sets ∙ ap (sets_in shape) (rest_of contents lists 0 (first_bucket shape) (omega arith) front);
+      locals_are = locals ∙ ap (all_locals_in shape) (rest_of contents lists 0 (first_bucket shape) (omega arith) front);
       buckets_are = rest_of bodies buckets (first_bucket shape) (first_freelist shape) (omega arith) middle ∙ ap (λ (l : List (List Stored)). drop (first_bucket shape) (take (first_freelist shape) l)) (bodies_apart slots);
       freelists_are = rest_of contents freelists (first_freelist shape) (lock_count shape) (omega arith) back
           ∙ ap (drop (first_freelist shape)) (ap (λ (n : ℕ). take n contents) (sym long) ∙ take-length contents);
     }
+
+-- what is kept of the turns of the locks behind the buckets, as it was taken in order
+pub turns_apart : (shape : Shape) (slots : List Behind) (turns : List (Option SlotTurns)) → length slots ≡ lock_count shape
+    → take (lock_count shape) (map (λ (behind : Behind). behind.history) slots) ≡ take (first_freelist shape) (map (λ (behind : Behind). behind.history) slots) ++ turns
+    → turns ≡ drop (first_freelist shape) (map (λ (behind : Behind). behind.history) slots)
+turns_apart shape slots turns counted back =
+    let all : List (Option SlotTurns) = map (λ (behind : Behind). behind.history) slots in
+    let long : length all ≡ lock_count shape = length-map slots (λ (behind : Behind). behind.history) ∙ counted in
+    rest_of all turns (first_freelist shape) (lock_count shape) (omega arith) back
+    ∙ ap (drop (first_freelist shape)) (ap (λ (n : ℕ). take n all) (sym long) ∙ take-length all)
 
 -- the history of a slot, and a bucket's place among the locks
 pub history_in : (shape : Shape) (log : Logs) (lost : ℕ → Bool) (slots : List Behind) (k : ℕ) (behind : Behind) → HaveHistories shape log lost (map (λ (b : Behind). b.history) slots) → k < lock_count shape → get_elem? slots k ≡ some behind → has_lock shape k ≡ true → IsSlotHistory (lock_named shape k) (lost k) (log k) behind.history
@@ -474,6 +488,33 @@ no_bucket_at shape k outside =
     let below = ltb-true k (first_freelist shape) bucket in
     ⊎_elim (λ (less : k < first_bucket shape). absurd (omega arith)) (λ (past : first_freelist shape ≤ k). absurd (omega arith)) outside)
     (λ _. refl))))
+
+-- so what is kept of the locks behind the buckets is of no bucket
+pub turns_behind : (shape : Shape) (log : Logs) (lost : ℕ → Bool) (histories turns : List (Option SlotTurns)) → turns ≡ drop (first_freelist shape) histories
+    → first_freelist shape + length turns ≡ lock_count shape → HaveHistories shape log lost histories → HaveTurnsFrom shape log lost (first_freelist shape) turns
+turns_behind shape log lost histories turns is counted told = λ k within there.
+    let n : ℕ = first_freelist shape + k in (
+      no_bucket_at shape n (inr (omega arith)),
+      subst (IsSlotHistory (lock_named shape n) (lost n) (log n)) (sym (ap (λ (l : List (Option SlotTurns)). get_or l k None) is ∙ get_or-drop (first_freelist shape) histories k None)) (told n (omega arith) there),
+    )
+
+-- what came out of all slots, as it was taken in order
+pub emptied_by : (shape : Shape) (slots : List Behind) (emptied : Emptied) → length slots ≡ lock_count shape
+    → length emptied.counts.items ≡ shape.buckets → first_freelist shape + length emptied.turns.items ≡ lock_count shape
+    → length emptied.histories.kept.items ≤ first_bucket shape → lock_count shape ≤ vec_capacity emptied.histories.kept
+    → ((log : Logs) (lost : ℕ → Bool) → HaveHistories shape log lost (map (λ (behind : Behind). behind.history) slots) → AreCounts shape log lost shape.buckets emptied.counts.items)
+    → take (lock_count shape) (map (λ (behind : Behind). behind.history) slots) ≡ take (first_freelist shape) (map (λ (behind : Behind). behind.history) slots) ++ emptied.turns.items
+    → ((log : Logs) (lost : ℕ → Bool) → HaveHistories shape log lost (map (λ (behind : Behind). behind.history) slots) → AreKept shape log lost (first_bucket shape) emptied.histories.kept.items emptied.histories.lost)
+    → IsEmptied shape (map (λ (behind : Behind). behind.history) slots) emptied
+emptied_by shape slots emptied long counted many few room counts turns kept = record {
+  counted = counted;
+  many = omega arith;
+  few = few;
+  room = room;
+  counts = counts;
+  turns = λ log lost told. turns_behind shape log lost (map (λ (behind : Behind). behind.history) slots) emptied.turns.items (turns_apart shape slots emptied.turns.items long turns) many told;
+  kept = kept;
+}
 
 pub bucket_named : (shape : Shape) (bucket : ℕ) → bucket < shape.buckets → lock_named shape (first_bucket shape + bucket) ≡ named.Bucket bucket
 bucket_named shape bucket within = named_by_number shape (named.Bucket bucket) (passes_below bucket shape.buckets within)
@@ -506,9 +547,10 @@ of_ok (Err e) is p = absurd (false≢true is)
 pub both_ok : {T E P Q R : Type 0} (was now : Result T E) → OnOk now (IsOk was × P) → OnOk was Q → (Q → P → R) → OnOk now R
 both_ok {T} {E} {P} {Q} {R} was now added so_far more = on_ok_weaker {P = IsOk was × P} now (λ (both : IsOk was × P). more (of_ok was both.0 so_far) both.1) added
 
-pub where_ok : {T E P Q : Type 0} (r : Result T E) → OnOk r P → (P → Q) → OnOk r Q
-where_ok {T} {E} {P} {Q} r holds more = on_ok_weaker {P = P} r more holds
-
 pub on_ok_always : {T E P : Type 0} (r : Result T E) → P → OnOk r P
 on_ok_always (Ok x) p = p
 on_ok_always (Err e) p = tt
+
+pub if_ok_both : {T E : Type 0} (P Q R : T → Type 0) (r : Result T E) → ((x : T) → P x → Q x → R x) → IfOk r P → IfOk r Q → IfOk r R
+if_ok_both P Q R (Ok x) both p q = both x p q
+if_ok_both P Q R (Err e) both p q = tt

@@ -4,7 +4,7 @@ use Rattle.std.specs.Prelude.{slice_get, nat_lt, option_map, unwrap_or}
 use Rattle.std.specs.List.{sum_by}
 use Rattle.std.proofs.lemmas.Bool.{cases_Bool, cases_eq, cases_lt, cases_order, cond_both, ltb-true, ltb-false}
 use Rattle.std.proofs.lemmas.List.{ext_get_or, get_or_past, get_or-map, get_or-take, get_or-drop, length-map, length-take-le, length-drop, length-set, take-take}
-use Rattle.std.proofs.lemmas.List.Sums.{sum_by_more_le}
+use Rattle.std.proofs.lemmas.List.Sums.{sum_by_more, sum_by_more_le}
 use Rattle.std.proofs.lemmas.Option.{get_or_from_slice_get, same_Some, slice_get_within}
 use Rattle.map_types.specs.declared.attr.Shape.{Shape}
 use Rattle.place_words.specs.declared.history.Entry.{Entry}
@@ -35,6 +35,14 @@ counted counts bucket index within =
     (λ (less : bucket < length counts). less)
     (λ (past : length counts ≤ bucket). let none : turns_in counts bucket ≡ 0 = ap (λ (o : Option ℕ). unwrap_or o 0) (get_or_past counts bucket None past) in absurd (omega arith))
     (cases_lt bucket (length counts))
+
+-- the places of the next bucket begin behind a bucket's
+pub next_start : (counts : List (Option ℕ)) (bucket : ℕ) → bucket < length counts → turns_before counts (bucket + 1) ≡ turns_before counts bucket + turns_in counts bucket
+next_start counts bucket within = sum_by_more (λ count. unwrap_or count 0) counts bucket None within
+
+-- a bucket that isn't counted has none
+pub none_past : (counts : List (Option ℕ)) (bucket : ℕ) → length counts ≤ bucket → turns_in counts bucket ≡ 0
+none_past counts bucket past = ap (λ (o : Option ℕ). unwrap_or o 0) (get_or_past counts bucket None past)
 
 -- a turn that is counted has its place before those of the next bucket, and before the end
 place_within : (counts : List (Option ℕ)) (bucket index : ℕ) → index < turns_in counts bucket → turns_before counts bucket + index < turns_before counts (length counts)

@@ -13,6 +13,7 @@ use Rattle.place_words.specs.declared.history.Entry.{Entry}
 use Rattle.place_words.specs.declared.history.LockHistory.{LockHistory}
 use Rattle.place_words.specs.declared.history.Strand.{Strand}
 use Rattle.place_words.specs.Histories.{content}
+use Rattle.place_words.specs.State.{is_bucket}
 use Rattle.place_words.specs.Locks.{lock_named, lock_number, lock_count, first_set, first_bucket, first_freelist}
 use Rattle.place_words.specs.Locals.{new_locals}
 use Rattle.place_words.specs.Logs.{final_set, final_local}
@@ -20,6 +21,7 @@ use Rattle.place_words.specs.Sets.{new_set}
 use Rattle.place_words.specs.Bodies.{numbers}
 use Rattle.local_lists.specs.LocalLists.{local_told}
 use Rattle.place_table.specs.declared.close.Emptied.{Emptied}
+use Rattle.place_table.specs.declared.lists_left.ListsLeft.{ListsLeft}
 use Rattle.place_words.specs.declared.turn_logs.LoggedTurn.{LoggedTurn}
 use Rattle.place_words.specs.TurnLogs.{turn_logged}
 use Rattle.place_table.specs.declared.content.Content.{Content}
@@ -122,15 +124,22 @@ AreContents shape log contents =
     (k : ℕ) → k < lock_count shape → has_lock shape k ≡ true
     → (here : Content) × (slice_index_or contents k None ≡ Some here) × (content_told (lock_named shape k) here ≡ content shape (lock_named shape k) (log k)) × FitsLock shape (lock_named shape k) here
 
+-- what is kept of the turns of so many locks from a number on; those that the map has are no buckets
+abbrev pub HaveTurnsFrom : Shape → Logs → (ℕ → Bool) → ℕ → List (Option SlotTurns) → Type 0
+HaveTurnsFrom shape log lost first turns =
+    (k : ℕ) → k < length turns → has_lock shape (first + k) ≡ true
+    → (is_bucket (lock_named shape (first + k)) ≡ false) × IsSlotHistory (lock_named shape (first + k)) (lost (first + k)) (log (first + k)) (slice_index_or turns k None)
+
 -- the histories of the first n locks, and whether one of them is lost
 pub record AreKept (shape : Shape) (log : Logs) (lost : ℕ → Bool) (n : ℕ) (kept : List LockHistory) (some_lost : Bool) : Type 0 where
   pub kept_are : kept ≡ map (history_of shape log) (filter (λ k. not (lost k)) (filter (has_lock shape) (range_with_len 0 n)))
   pub lost_is : some_lost ≡ list_any lost (filter (has_lock shape) (range_with_len 0 n))
 
--- Of the contents of all slots, by number: what lay under the locks before the buckets, the bodies of the buckets, and what lay
--- under the locks behind them.
-pub record AreApart (shape : Shape) (contents lists freelists : List (Option Content)) (buckets : List (List Stored)) : Type 0 where
-  pub lists_are : lists ≡ take (first_bucket shape) contents
+-- Of the contents of all slots, by number: the lists that lay under the locks before the buckets, the bodies of the buckets, and what
+-- lay under the locks behind them.
+pub record AreApart (shape : Shape) (contents : List (Option Content)) (lists : ListsLeft) (freelists : List (Option Content)) (buckets : List (List Stored)) : Type 0 where
+  pub sets_are : lists.sets.items ≡ sets_in shape (take (first_bucket shape) contents)
+  pub locals_are : lists.locals.items ≡ all_locals_in shape (take (first_bucket shape) contents)
   pub buckets_are : buckets ≡ drop (first_bucket shape) (take (first_freelist shape) (map bodies_in contents))
   pub freelists_are : freelists ≡ drop (first_freelist shape) contents
 
@@ -149,9 +158,22 @@ pub record HasRoom (shape : Shape) (emptied : Emptied) : Type 0 where
   pub room_for_counts : shape.buckets ≤ vec_capacity emptied.counts
   pub no_freelists : emptied.freelists.items ≡ []
   pub room_for_freelists : shape.cpus ≤ vec_capacity emptied.freelists
+  pub no_turns : emptied.turns.items ≡ []
+  pub room_for_turns : shape.cpus ≤ vec_capacity emptied.turns
   pub no_histories : emptied.histories.kept.items ≡ []
   pub none_lost : emptied.histories.lost ≡ false
   pub room_for_histories : lock_count shape ≤ vec_capacity emptied.histories.kept
+
+-- what came out of all slots, by what is kept of turns there: how many turns of each bucket are logged, what is kept of those of the
+-- locks behind them, and the histories of the locks before them, with room for all others
+pub record IsEmptied (shape : Shape) (histories : List (Option SlotTurns)) (emptied : Emptied) : Type 0 where
+  pub counted : length emptied.counts.items ≡ shape.buckets
+  pub many : length emptied.turns.items ≡ shape.cpus
+  pub few : length emptied.histories.kept.items ≤ first_bucket shape
+  pub room : lock_count shape ≤ vec_capacity emptied.histories.kept
+  pub counts : (log : Logs) (lost : ℕ → Bool) → HaveHistories shape log lost histories → AreCounts shape log lost shape.buckets emptied.counts.items
+  pub turns : (log : Logs) (lost : ℕ → Bool) → HaveHistories shape log lost histories → HaveTurnsFrom shape log lost (first_freelist shape) emptied.turns.items
+  pub kept : (log : Logs) (lost : ℕ → Bool) → HaveHistories shape log lost histories → AreKept shape log lost (first_bucket shape) emptied.histories.kept.items emptied.histories.lost
 
 -- a strand that was kept, with its CPUs ascending
 abbrev pub finished_told : Shape → FinishedStrand → Strand

@@ -1,6 +1,6 @@
 //! What is read and taken out of a table at its end.
 
-ghost use Rattle.std.specs.Prelude.{◌≡◌, ◌⊎◌, ℕ, ◌+◌, ◌<◌, ◌≤◌, ◌++◌, ◌∷◌, Bool, true, false, List, None, [], IfOk, OnOk, IsOk, filter, length, map, option_map, slice_index_or, take, vec_capacity};
+ghost use Rattle.std.specs.Prelude.{◌≡◌, ◌⊎◌, ℕ, ◌+◌, ◌<◌, ◌≤◌, ◌++◌, ◌∷◌, Bool, true, false, List, Option, None, [], IfOk, OnOk, IsOk, filter, length, map, option_map, slice_index_or, take, vec_capacity};
 ghost use Rattle.std.specs.List.{range_with_len};
 ghost use Rattle.std.specs.Slots.{slots_items, slots_filled, slots_len, IsFull};
 ghost use Rattle.map_types.specs.declared.attr.Shape.{Shape};
@@ -12,14 +12,16 @@ ghost use Rattle.map_types.specs.declared.kind.DomainId.{DomainId};
 ghost use Rattle.place_words.specs.declared.history.Entry.{Entry};
 ghost use Rattle.place_words.specs.State.{is_bucket};
 ghost use Rattle.place_words.specs.TurnLogs.{turns_at};
-ghost use Rattle.place_table.specs.Leaving.{Logs, bodies_in, HasRoom, HasSizedBodies, IsCount, IsHistory, IsSlotHistory, HaveHistories, AreApart, AreCounts, AreKept, AreTaken, TellTurns};
+ghost use Rattle.place_table.specs.Leaving.{Logs, bodies_in, HasRoom, HasSizedBodies, IsCount, IsHistory, IsSlotHistory, HaveHistories, AreApart, AreCounts, AreKept, AreTaken, HaveTurnsFrom, IsEmptied, TellTurns};
 
 use crate::body_copies::bucket_copy;
 use crate::content::{Behind, Content, SlotTurns};
+use crate::lists_left::{ListsLeft, lists_left};
 use crate::turn_places::{places_of, starts_of};
 use map_types::{DomainId, List, NoMemory, Numbers, Shape};
 use place_words::{Entries, Kept, LockHistory, LoggedTurn, TurnLogs, is_lock, lock_named};
 use std::alloc::{AllocError, Global};
+use std::mem;
 use std::sync::Arc;
 
 /// The elements whose bit is set, where their words begin here.
@@ -113,14 +115,16 @@ fn turns_counted(history: &Option<SlotTurns>) -> Option<u32>
     }
 }
 
-/// What comes out of the slots: what lay under the locks before the buckets, copies of the buckets and how many turns of each are
-/// logged, what lay under the locks behind them, and the histories.
+/// What comes out of the slots: until the lists are told what lay under the locks before the buckets, copies of the buckets and how many
+/// turns of each are logged, what lay under the locks behind them and, until histories are made of it, what was kept of their turns; and
+/// the histories that are made so far, at first those of the locks before the buckets.
 #[derive(Drop)]
 pub(crate) struct Emptied {
     pub(crate) lists: Vec<Option<Content>>,
     pub(crate) buckets: Vec<List<Kept>>,
     pub(crate) counts: Vec<Option<u32>>,
     pub(crate) freelists: Vec<Option<Content>>,
+    pub(crate) turns: Vec<Option<SlotTurns>>,
     pub(crate) histories: Histories,
 }
 
@@ -137,6 +141,7 @@ pub(crate) fn room_for(alloc: Global, shape: &Shape) -> Result<Emptied, NoMemory
         buckets: Vec::with_capacity(alloc, shape.buckets as usize)?,
         counts: Vec::with_capacity(alloc, shape.buckets as usize)?,
         freelists: Vec::with_capacity(alloc, shape.cpus as usize)?,
+        turns: Vec::with_capacity(alloc, shape.cpus as usize)?,
         histories: Histories {
             kept: Vec::with_capacity(alloc, count as usize)?,
             lost: false,
@@ -183,6 +188,55 @@ fn take_lists(
     }
 }
 
+/// Takes the slots whose numbers are from one up to another out, contents and what is kept of their turns apart. All slots before are
+/// empty.
+fn take_behind(
+    closed: &mut atomic_table::Closed<Behind, Global>,
+    contents: &mut Vec<Option<Content>>,
+    turns: &mut Vec<Option<SlotTurns>>,
+    first: u32,
+    past: u32,
+)
+    requires within { (first ≤ past) × (past ≤ slots_len closed.old.slots) }
+    requires before { AreTaken first (slots_filled closed.old.slots) }
+    requires room { (contents.old.items ≡ []) × (past ≤ first + vec_capacity contents.old) }
+    requires room_for_turns { (turns.old.items ≡ []) × (past ≤ first + vec_capacity turns.old) }
+    ensures contents { take past (map (λ behind. behind.content) (slots_items closed.old.slots))
+        ≡ take first (map (λ behind. behind.content) (slots_items closed.old.slots))
+        ++ contents.new.items }
+    ensures turns { take past (map (λ behind. behind.history) (slots_items closed.old.slots))
+        ≡ take first (map (λ behind. behind.history) (slots_items closed.old.slots))
+        ++ turns.new.items }
+    ensures many { first + length turns.new.items ≡ past }
+    ensures count { slots_len closed.new.slots ≡ slots_len closed.old.slots }
+    ensures after { AreTaken past (slots_filled closed.new.slots) }
+{
+    for slot in first..past {
+        let Behind { content, history } = closed.take(slot as usize);
+        contents.push_reserved(content);
+        turns.push_reserved(history);
+    }
+}
+
+/// Keeps the histories of locks from a number on, or that they are lost. None of them is a bucket's.
+fn keep_turns(shape: &Shape, histories: &mut Histories, turns: Vec<Option<SlotTurns>>, first: u32)
+    requires shape { IsShape shape.now }
+    requires few { length histories.old.kept.items ≤ first }
+    requires room { first + length turns.items ≤ vec_capacity histories.old.kept }
+    requires within { first + length turns.items ≤ lock_count shape.now }
+    ensures { (log : Logs) (lost : ℕ → Bool)
+        → HaveTurnsFrom shape.now log lost first turns.items
+        → AreKept shape.now log lost first histories.old.kept.items histories.old.lost
+        → AreKept shape.now log lost
+        (first + length turns.items) histories.new.kept.items histories.new.lost }
+{
+    let mut number = first;
+    for history in turns {
+        histories.keep_numbered(shape, number, history);
+        number += 1;
+    }
+}
+
 /// A copy of a bucket.
 fn bucket_left(
     alloc: Global,
@@ -218,7 +272,8 @@ fn add_bucket(
     Ok(())
 }
 
-/// Takes the slots of the buckets out, and copies the buckets while memory is found. All slots before are empty.
+/// Takes the slots of the buckets out, and copies the buckets while memory is found. All slots before are empty. The bodies of the
+/// buckets stay where they are.
 fn take_buckets(
     alloc: Global,
     shape: &Shape,
@@ -256,6 +311,8 @@ fn take_buckets(
         let Behind { content, history } = closed.take(first + bucket as usize);
         counts.push_reserved(turns_counted(&history));
         copied = add_bucket(copied, alloc, shape, &content, buckets);
+        // Its bodies stay where they are: a run ends soon, and the system takes back all memory at once.
+        mem::forget(content);
     }
     copied
 }
@@ -305,14 +362,14 @@ fn logged_at(
     Ok(Some(Entries::logged(logs, first, count as usize)))
 }
 
-/// Takes all slots out, and copies the buckets while memory is found.
+/// Takes all slots out, and copies the buckets while memory is found. The lists are told before buckets are copied, so that the memory
+/// of their rows is given back before more is asked for.
 pub(crate) fn empty_out(
     alloc: Global,
     shape: &Shape,
     closed: &mut atomic_table::Closed<Behind, Global>,
     emptied: &mut Emptied,
-    logs: Vec<Vec<LoggedTurn>>,
-) -> Result<(), NoMemory>
+) -> Result<ListsLeft, NoMemory>
     requires shape { IsShape shape.now }
     requires full { IsFull closed.old.slots × (slots_len closed.old.slots ≡ lock_count shape.now) }
     requires sized { (bucket : ℕ) → bucket < shape.now.buckets
@@ -320,15 +377,11 @@ pub(crate) fn empty_out(
         (slice_index_or (map (λ behind. behind.content) (slots_items closed.old.slots))
         (first_bucket shape.now + bucket) None) }
     requires room { HasRoom shape.now emptied.old }
-    ensures apart { OnOk result (AreApart shape.now
+    ensures apart { IfOk result (λ left. AreApart shape.now
         (map (λ behind. behind.content) (slots_items closed.old.slots))
-        emptied.new.lists.items emptied.new.freelists.items emptied.new.buckets.items) }
-    ensures histories { (log : Logs) (lost : ℕ → Bool)
-        → HaveHistories shape.now log lost
-        (map (λ behind. behind.history) (slots_items closed.old.slots))
-        → TellTurns shape.now log lost logs.items
-        → OnOk result (AreKept shape.now log lost
-        (lock_count shape.now) emptied.new.histories.kept.items emptied.new.histories.lost) }
+        left emptied.new.freelists.items emptied.new.buckets.items) }
+    ensures emptied { IsEmptied shape.now
+        (map (λ behind. behind.history) (slots_items closed.old.slots)) emptied.new }
     ensures empty { (k : ℕ) → k < slots_len closed.new.slots
         → slice_index_or (slots_filled closed.new.slots) k false ≡ false }
 {
@@ -341,12 +394,49 @@ pub(crate) fn empty_out(
         buckets,
         counts,
         freelists,
+        turns,
         histories,
     } = emptied;
     take_lists(shape, closed, lists, histories, 0, first_bucket);
+    let told = lists_left(alloc, shape, mem::replace(lists, Vec::new(alloc)));
     let copied = take_buckets(alloc, shape, closed, buckets, counts);
-    let placed = keep_logged(alloc, counts.as_slice(), logs, histories);
-    take_lists(shape, closed, freelists, histories, first_freelist, past);
+    take_behind(closed, freelists, turns, first_freelist, past);
     copied?;
-    placed
+    told
+}
+
+/// Keeps the histories of the buckets, whose turns stand in these logs, and of the locks behind them, or that they are lost.
+pub(crate) fn keep_others(
+    alloc: Global,
+    shape: &Shape,
+    emptied: &mut Emptied,
+    logs: Vec<Vec<LoggedTurn>>,
+) -> Result<(), NoMemory>
+    requires shape { IsShape shape.now }
+    requires emptied { (histories : List (Option SlotTurns)) × IsEmptied shape.now histories emptied.old }
+    ensures kept { (histories : List (Option SlotTurns)) (log : Logs) (lost : ℕ → Bool)
+        → IsEmptied shape.now histories emptied.old → HaveHistories shape.now log lost histories
+        → TellTurns shape.now log lost logs.items
+        → OnOk result (AreKept shape.now log lost
+        (lock_count shape.now) emptied.new.histories.kept.items emptied.new.histories.lost) }
+    ensures freelists { emptied.new.freelists.items ≡ emptied.old.freelists.items }
+    ensures buckets { emptied.new.buckets.items ≡ emptied.old.buckets.items }
+{
+    let first_set = shape.cpus + 1;
+    let first_bucket = first_set + shape.cpus;
+    let first_freelist = first_bucket + shape.buckets;
+    let Emptied {
+        counts,
+        turns,
+        histories,
+        ..
+    } = emptied;
+    keep_logged(alloc, counts.as_slice(), logs, histories)?;
+    keep_turns(
+        shape,
+        histories,
+        mem::replace(turns, Vec::new(alloc)),
+        first_freelist,
+    );
+    Ok(())
 }

@@ -15,6 +15,7 @@ mod create;
 mod gate_points;
 mod homes;
 mod laws;
+mod lists_left;
 mod owners;
 mod pass;
 mod read_slots;

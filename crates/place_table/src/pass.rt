@@ -8,7 +8,7 @@ ghost use Rattle.place_table.specs.Closing.{IsClosed};
 ghost use Rattle.place_table.specs.Passes.{IsFirstPass, IsPassOf, IsInNoCall, CanSplit, Split, CanJoin, Joined};
 ghost use Rattle.place_table.specs.Views.{is_among};
 
-use crate::close::{empty_out, marked_in, room_for};
+use crate::close::{empty_out, keep_others, marked_in, room_for};
 use crate::closed::Closed;
 use crate::cpus::{add_cpus, drop_cpu, first_cpus, one_cpu};
 use crate::create::{first_slots, first_words, spare_bodies};
@@ -21,7 +21,7 @@ use crate::table::PlaceTable;
 use atomic_table::Table;
 use map_types::{NoMemory, Shape};
 use percpu_values::BoxedBody;
-use place_words::{StrandStep, owners_at_first};
+use place_words::{StepBuffer, owners_at_first};
 use std::alloc::{AllocError, Global};
 use std::marker::{Brand, Model};
 use std::mem;
@@ -33,12 +33,13 @@ pub struct Pass {
     pub(crate) cpu: u32,
     pub(crate) call: u32,
     cpus: [bool; 16],
-    pub(crate) strand: Vec<StrandStep>,
+    pub(crate) strand: StepBuffer,
     pub(crate) made: TurnsMade,
     pub(crate) spares: [Option<BoxedBody>; 16],
 }
 
 impl Model for Pass {
+    ghost use Rattle.place_words.specs.StrandSteps.{steps_made};
     ghost use Rattle.place_table.specs.Passes.{PassView, IsPass};
 
     ghost Value = { PassView };
@@ -53,7 +54,7 @@ impl Model for Pass {
       spares = p.spares;
     } };
 
-    ghost invariant = { λ p. IsPass p.seat.me.0 p.seat.me.1 p.strand.items p.spares p.cpus
+    ghost invariant = { λ p. IsPass p.seat.me.0 p.seat.me.1 (steps_made p.strand) p.spares p.cpus
         p.made };
 }
 
@@ -70,7 +71,7 @@ impl Pass {
 
 /// Room for so many steps is taken at the opening. Memory of this size is a block of its own, which the system doesn't copy to let
 /// it grow.
-const FIRST_STEPS: usize = 16384;
+const FIRST_STEPS: usize = 32768;
 
 /// And for so many turns of buckets.
 const FIRST_LOGGED: usize = 4096;
@@ -84,7 +85,7 @@ impl PlaceTable {
         requires shape { IsShape shape.now }
         ensures { IfOk result (λ made. (made.0.shape ≡ shape.now) × IsFirstPass made.0 made.1) }
     {
-        let strand = Vec::with_capacity(alloc, FIRST_STEPS)?;
+        let strand = StepBuffer::with_room(alloc, FIRST_STEPS)?;
         let log = Vec::with_capacity(alloc, FIRST_LOGGED)?;
         let owners = owners_at_first(alloc, shape)?;
         let words = first_words(alloc, shape, owners.as_slice())?;
@@ -120,7 +121,7 @@ impl PlaceTable {
         ensures { Split cpu pass.old pass.new result }
     {
         let seat = cut_seat::<Brand>(&self.table.shared, &mut pass.seat, cpu);
-        let steps = mem::replace(&mut pass.strand, Vec::new(self.alloc));
+        let steps = mem::replace(&mut pass.strand, StepBuffer::new(self.alloc));
         let new = none_made(self.alloc, Vec::new(self.alloc));
         let made = mem::replace(&mut pass.made, new);
         let made = end_strand(self.alloc, made, &pass.cpus, steps);
@@ -131,7 +132,7 @@ impl PlaceTable {
             cpu: self.shape.cpus,
             call: 0,
             cpus: one_cpu(cpu),
-            strand: Vec::new(self.alloc),
+            strand: StepBuffer::new(self.alloc),
             made,
             spares: split_spares(&mut pass.spares, cpu),
         }
@@ -155,7 +156,7 @@ impl PlaceTable {
             mut spares,
         } = other;
         merge_seat::<Brand>(&self.table.shared, &mut pass.seat, seat);
-        let steps = mem::replace(&mut pass.strand, Vec::new(self.alloc));
+        let steps = mem::replace(&mut pass.strand, StepBuffer::new(self.alloc));
         let new = none_made(self.alloc, Vec::new(self.alloc));
         let ours = mem::replace(&mut pass.made, new);
         let ours = end_strand(self.alloc, ours, &pass.cpus, steps);
@@ -192,9 +193,9 @@ impl PlaceTable {
         let mut closed = table.close_with(seat);
         let marked = marked_in(alloc, &closed, first_bit, shape.elements);
         let (ended, logs) = ended_told(alloc, end_strand(alloc, made, &cpus, strand));
-        let copied = empty_out(alloc, &shape, &mut closed, &mut emptied, logs);
+        let told = empty_out(alloc, &shape, &mut closed, &mut emptied);
         closed.free();
-        copied?;
-        read_slots(alloc, &shape, emptied, marked?, ended, &spares)
+        keep_others(alloc, &shape, &mut emptied, logs)?;
+        read_slots(alloc, &shape, emptied, told?, marked?, ended, &spares)
     }
 }

@@ -7,6 +7,7 @@ ghost use Rattle.map_types.specs.declared.kind.DomainId.TheVariants as locks;
 ghost use Rattle.place_words.specs.Locks.{lock_count, lock_named, lock_number, is_lock};
 ghost use Rattle.map_types.specs.ElementLists.{IsIn};
 ghost use Rattle.place_words.specs.State.{rows};
+ghost use Rattle.place_words.specs.StrandSteps.{steps_made};
 ghost use Rattle.place_table.specs.declared.content.Behind.{Behind};
 ghost use Rattle.place_table.specs.declared.content.Content.{Content};
 ghost use Rattle.place_table.specs.declared.view.Hold.{Hold};
@@ -29,7 +30,7 @@ use crate::rule::{
     Trying, Turn,
 };
 use map_types::DomainId;
-use place_words::{Entries, Entry, LoggedTurn, Part, StrandStep};
+use place_words::{Entries, Entry, LoggedTurn, Part, StepBuffer, StrandStep};
 use std::sync::Wait;
 use std::{mem, thread};
 
@@ -96,7 +97,7 @@ pub(crate) fn put_back(
     number: u32,
     content: Content,
     ticket: &Option<u64>,
-    strand: &mut Vec<StrandStep>,
+    strand: &mut StepBuffer,
     log: &mut Vec<LoggedTurn>,
     lock: DomainId,
     entry: Entry,
@@ -107,8 +108,8 @@ pub(crate) fn put_back(
     ensures seat { (seat.new.table_id ≡ seat.old.table_id) × (seat.new.id ≡ seat.old.id) }
     ensures put { (behind : Behind) × (history : Option SlotTurns)
         × (seat.old.me.1 ≡ (number, behind) ∷ rest seat.old.me.1)
-        × Records (history_with ticket.now behind.history) log.old.items lock entry strand.old.items
-        strand.new.items record { history = history; log = log.new.items; lost = result }
+        × Records (history_with ticket.now behind.history) log.old.items lock entry (steps_made strand.old)
+        (steps_made strand.new) record { history = history; log = log.new.items; lost = result }
         × (seat.new.me
         ≡ (seat.old.me.0, (number, filled content history) ∷ rest seat.old.me.1)) }
 {
@@ -140,14 +141,14 @@ fn fill(
     behind: &mut Behind,
     content: Content,
     ticket: &Option<u64>,
-    strand: &mut Vec<StrandStep>,
+    strand: &mut StepBuffer,
     log: &mut Vec<LoggedTurn>,
     lock: DomainId,
     entry: Entry,
 ) -> Option<Entry>
     requires { behind.old.content ≡ None }
     ensures content { behind.new.content ≡ Some content }
-    ensures recorded { Records (history_with ticket.now behind.old.history) log.old.items lock entry strand.old.items strand.new.items
+    ensures recorded { Records (history_with ticket.now behind.old.history) log.old.items lock entry (steps_made strand.old) (steps_made strand.new)
         record { history = behind.new.history; log = log.new.items; lost = result } }
 {
     // Nothing lies there that would be dropped.
@@ -162,13 +163,13 @@ fn fill(
 /// The history with the entry, or the log with it, and the strand with its step. Where there was no history, or the turn can't be
 /// recorded, there is none from then on, log and strand stay, and the entry comes back.
 fn record_turn(
-    strand: &mut Vec<StrandStep>,
+    strand: &mut StepBuffer,
     log: &mut Vec<LoggedTurn>,
     history: &mut Option<SlotTurns>,
     lock: DomainId,
     entry: Entry,
 ) -> Option<Entry>
-    ensures { Records history.old log.old.items lock entry strand.old.items strand.new.items
+    ensures { Records history.old log.old.items lock entry (steps_made strand.old) (steps_made strand.new)
         record { history = history.new; log = log.new.items; lost = result } }
 {
     let Some(turns) = history else {
@@ -186,16 +187,16 @@ fn record_turn(
 /// The turns with the entry behind them, or the log with it, and the strand with its step. Where it can't be recorded, log and strand
 /// stay, and the entry comes back.
 fn record_in(
-    strand: &mut Vec<StrandStep>,
+    strand: &mut StepBuffer,
     log: &mut Vec<LoggedTurn>,
     turns: &mut SlotTurns,
     lock: DomainId,
     entry: Entry,
 ) -> Option<Entry>
-    ensures { MatchOption result (RecordsIn (Some turns.old) log.old.items (Some turns.new) lock entry strand.old.items strand.new.items
+    ensures { MatchOption result (RecordsIn (Some turns.old) log.old.items (Some turns.new) lock entry (steps_made strand.old) (steps_made strand.new)
         record { history = Some turns.new; log = log.new.items; lost = None })
         (λ back. (back ≡ entry) × (log.new.items ≡ log.old.items)
-        × (strand.new.items ≡ strand.old.items)) }
+        × (steps_made strand.new ≡ steps_made strand.old)) }
 {
     match turns {
         SlotTurns::Here(entries) => record_here(strand, entries, lock, entry),
@@ -206,16 +207,16 @@ fn record_in(
 /// The turns with the entry behind them, and the strand with its step. Where there is no memory for both, or the part is none of this
 /// lock's, the strand stays, and the entry comes back.
 fn record_here(
-    strand: &mut Vec<StrandStep>,
+    strand: &mut StepBuffer,
     entries: &mut Entries,
     lock: DomainId,
     entry: Entry,
 ) -> Option<Entry>
     ensures { MatchOption result ((entries.new ≡ entries.old ++ entry ∷ [])
-        × (strand.new.items ≡ strand.old.items ++ recorded_step lock (length entries.old) ∷ []))
-        (λ back. (back ≡ entry) × (strand.new.items ≡ strand.old.items)) }
+        × (steps_made strand.new ≡ steps_made strand.old ++ recorded_step lock (length entries.old) ∷ []))
+        (λ back. (back ≡ entry) × (steps_made strand.new ≡ steps_made strand.old)) }
 {
-    if strand.reserve(1).is_err() {
+    if strand.reserve_one().is_err() {
         return Some(entry);
     }
     let index = entries.len() as u64;
@@ -231,19 +232,19 @@ fn record_here(
 /// The log with the turn of a bucket, the strand with its step, and one turn more that is counted. Where there is no memory for
 /// both, the turn is none of a bucket, or its bucket has had 2^32 - 1 turns, log and strand stay, and the entry comes back.
 fn record_logged(
-    strand: &mut Vec<StrandStep>,
+    strand: &mut StepBuffer,
     log: &mut Vec<LoggedTurn>,
     count: &mut u32,
     lock: DomainId,
     entry: Entry,
 ) -> Option<Entry>
     ensures { MatchOption result
-        (IsLogged log.old.items log.new.items count.old count.new lock entry strand.old.items strand.new.items)
+        (IsLogged log.old.items log.new.items count.old count.new lock entry (steps_made strand.old) (steps_made strand.new))
         (λ back. (back ≡ entry) × (log.new.items ≡ log.old.items)
-        × (strand.new.items ≡ strand.old.items)) }
+        × (steps_made strand.new ≡ steps_made strand.old)) }
 {
     let index = *count;
-    if index == u32::MAX || strand.reserve(1).is_err() || log.reserve(1).is_err() {
+    if index == u32::MAX || strand.reserve_one().is_err() || log.reserve(1).is_err() {
         return Some(entry);
     }
     let Entry {
@@ -262,8 +263,9 @@ fn record_logged(
                 call,
                 part,
             });
+            // The lock is written out, so that its code is known to be a bucket's.
             strand.push_reserved(StrandStep {
-                lock,
+                lock: DomainId::Bucket(bucket),
                 index: index as u64,
             });
             *count = index + 1;
@@ -315,7 +317,7 @@ pub(crate) fn give_lock<N: Turn>(
     lock: u32,
     lost: &Option<Entry>,
     log: &Vec<LoggedTurn>,
-    strand: &Vec<StrandStep>,
+    strand: &StepBuffer,
 )
     requires table { seat.old.table_id ≡ shared.now.table_id }
     requires words { shared.now.table_id.words ≡ word_count shared.now.key }
@@ -323,7 +325,7 @@ pub(crate) fn give_lock<N: Turn>(
         × IsTrue (is_lock shared.now.key (lock_named shared.now.key lock)) }
     requires turn { (N.entry
         ≡ numbered_entry seat.old.me.0 (entry_given lost.now log.now.items seat.old.me.1))
-        × (N.kept ≡ strand.now.items) }
+        × (N.kept ≡ steps_made strand.now) }
     requires may { (behind : Behind) × (slots : List (ℕ × Behind)) × (hold : Hold)
         × (below : List Hold) × (seat.old.me.1 ≡ (lock, behind) ∷ slots)
         × IsInnermost seat.old.me.0 hold below × (hold.lock ≡ lock)

@@ -3,11 +3,11 @@
 ghost use Rattle.std.specs.Prelude.{◌≡◌, ◌++◌, ◌∷◌, IfSome, List, []};
 ghost use Rattle.place_table.specs.declared.view.Ended.{Ended};
 ghost use Rattle.map_types.specs.declared.attr.Shape.{Shape};
+ghost use Rattle.place_words.specs.StrandSteps.{steps_made};
 ghost use Rattle.place_table.specs.Logged.{AreLogsOf, HaveLogs, IsLogOf};
 ghost use Rattle.place_table.specs.Passes.{flags_of, AreFinished};
 
-use map_types::List;
-use place_words::{LoggedTurn, StrandStep};
+use place_words::{LoggedTurn, StepBuffer, StrandSteps};
 use std::alloc::Global;
 
 /// What is kept of the turns of a pass, beside the steps of its current strand.
@@ -25,7 +25,7 @@ pub(crate) struct TurnsMade {
 #[derive(Drop)]
 pub(crate) struct FinishedStrand {
     pub(crate) cpus: [bool; 16],
-    pub(crate) steps: List<StrandStep>,
+    pub(crate) steps: StrandSteps,
 }
 
 /// No turn yet, with this room for turns of buckets.
@@ -47,11 +47,11 @@ pub(crate) fn end_strand(
     alloc: Global,
     made: TurnsMade,
     cpus: &[bool; 16],
-    steps: Vec<StrandStep>,
+    steps: StepBuffer,
 ) -> TurnsMade
     ensures log { result.log.items ≡ [] }
     ensures ended { (strands : List Ended) (last : Ended) → AreFinished strands made.ended
-        → cpus.now ≡ flags_of last.cpus → steps.items ≡ last.kept
+        → cpus.now ≡ flags_of last.cpus → steps_made steps ≡ last.kept
         → AreFinished (strands ++ last ∷ []) result.ended }
     ensures logs { (shape : Shape) (strands : List Ended) (last : Ended)
         → HaveLogs shape strands made.logs
@@ -138,10 +138,10 @@ fn logs_together(
 fn finish(
     ended: Option<Vec<FinishedStrand>>,
     cpus: &[bool; 16],
-    steps: Vec<StrandStep>,
+    steps: StepBuffer,
 ) -> Option<Vec<FinishedStrand>>
     ensures { (strands : List Ended) (last : Ended) → AreFinished strands ended
-        → cpus.now ≡ flags_of last.cpus → steps.items ≡ last.kept
+        → cpus.now ≡ flags_of last.cpus → steps_made steps ≡ last.kept
         → AreFinished (strands ++ last ∷ []) result }
 {
     if steps.is_empty() {
@@ -153,7 +153,7 @@ fn finish(
     }
     ended.push_reserved(FinishedStrand {
         cpus: *cpus,
-        steps: List::of(steps),
+        steps: StrandSteps::of(steps),
     });
     Some(ended)
 }

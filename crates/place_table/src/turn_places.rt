@@ -87,7 +87,7 @@ fn place_turns(
     }
 }
 
-/// Writes the place of a turn, if the turn is counted.
+/// Writes the place of a turn, if the turn is counted: where its bucket's places begin and end tells how many are.
 fn place_turn(
     places: &mut Vec<TurnPlace>,
     counts: &[Option<u32>],
@@ -99,17 +99,22 @@ fn place_turn(
     requires many { length places.old.items ≡ turns_before counts.now (length counts.now) }
     ensures { places.new.items ≡ with_place counts.now turn.now place places.old.items }
 {
-    if turn.index < turns_in(counts, turn.bucket) {
+    if (turn.index as usize) < places_of_bucket(counts, starts, turn.bucket) {
         places[starts[turn.bucket as usize] + turn.index as usize] = place;
     }
 }
 
-/// How many turns of a bucket are logged, none where its record is lost.
-fn turns_in(counts: &[Option<u32>], bucket: u32) -> u32
+/// How many places a bucket has, none where no bucket of this number is counted.
+fn places_of_bucket(counts: &[Option<u32>], starts: &[usize], bucket: u32) -> usize
+    requires { AreStarts counts.now starts.now }
     ensures { result ≡ turns_in counts.now bucket }
 {
-    match counts.get(bucket as usize) {
-        Some(count) => count.unwrap_or(0),
-        None => 0,
+    // Only the clauses name them.
+    let _ = counts;
+    let bucket = bucket as usize;
+    if bucket + 1 < starts.len() {
+        starts[bucket + 1].saturating_sub(starts[bucket])
+    } else {
+        0
     }
 }

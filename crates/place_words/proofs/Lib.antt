@@ -6,6 +6,7 @@ pub mod VisitLemmas
 mod WorkedRows
 mod WorkedShrinks
 pub mod Splits
+pub mod StepRows
 pub mod Ascending
 mod Worked
 mod SparedOnOwn

@@ -36,6 +36,7 @@ pub mod Sizes
 pub mod Spread
 pub mod State
 pub mod Steps
+pub mod StrandSteps
 pub mod Strands
 pub mod Takings
 pub mod Tickets

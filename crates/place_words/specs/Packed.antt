@@ -1,5 +1,5 @@
 -- Which part of a list lock an entry stands for, in whatever form it lies there.
-use Rattle.std.specs.Prelude.{[], ◌≤◌, length, take, drop, option_map, ⊤}
+use Rattle.std.specs.Prelude.{[], ◌≤◌, ◌+◌, length, take, drop, option_map, Option, None, Some, Box, ⊤}
 use Rattle.place_words.specs.declared.list_part.GlobalPart.{GlobalPart}
 use Rattle.place_words.specs.declared.list_part.GlobalPart.TheVariants as global
 use Rattle.place_words.specs.declared.list_part.LocalPart.{LocalPart}
@@ -16,6 +16,9 @@ use Rattle.place_words.specs.declared.packed.OwnData.TheVariants as own_data
 use Rattle.place_words.specs.declared.packed.OwnAt.{OwnAt}
 use Rattle.place_words.specs.declared.packed.OwnAt.TheVariants as own_at
 use Rattle.place_words.specs.declared.packed.OwnTurn.{OwnTurn}
+use Rattle.place_words.specs.declared.packed.FewTurn.{FewTurn}
+use Rattle.place_words.specs.declared.visits.ShrinkNote.{ShrinkNote}
+use Rattle.std.specs.Global.{Global}
 
 abbrev pub local_of : LocalData → LocalPart
 local_of (local_data.Boxed part) = part.value
@@ -28,19 +31,35 @@ abbrev pub global_of : GlobalData → GlobalPart
 global_of (global_data.Boxed part) = part.value
 global_of (global_data.Push element) = global.Push element
 
--- a turn of an own set, with what its rotation came by side by side
+-- the shrink, if there is one, in a block of its own
+abbrev pub shrink_told : Option (Box ShrinkNote Global) → Option ShrinkNote
+shrink_told shrink = option_map (λ note. note.value) shrink
+
+-- a turn of an own set with its visits in place: first those of active, then those of inactive; the rest of the array says nothing
+abbrev pub turn_of_few : FewTurn → Option ShrinkNote → OwnPart
+turn_of_few turn shrink = own.Turn turn.hash (take turn.active turn.visits) (take turn.inactive (drop turn.active turn.visits)) shrink turn.got
+
+-- one with its visits in a block of their own
 abbrev pub turn_of_own : OwnTurn → OwnPart
-turn_of_own turn = own.Turn turn.hash (take turn.active turn.visits.items) (drop turn.active turn.visits.items) (option_map (λ note. note.value) turn.shrink) turn.got
+turn_of_own turn = own.Turn turn.hash (take turn.active turn.visits.items) (drop turn.active turn.visits.items) (shrink_told turn.shrink) turn.got
 
 abbrev pub own_of : OwnData → OwnPart
+own_of (own_data.Few turn) = turn_of_few turn.value None
+own_of (own_data.FewShrunk turn) = turn_of_few turn.value.turn (Some turn.value.shrink)
 own_of (own_data.Turn turn) = turn_of_own turn.value
 own_of (own_data.Push element) = own.Push element
+
+-- its array has room for the visits that are told
+abbrev pub IsFewTurn : FewTurn → Type 0
+IsFewTurn turn = turn.active + turn.inactive ≤ 4
 
 -- it has as many as are told active
 abbrev pub IsOwnTurn : OwnTurn → Type 0
 IsOwnTurn turn = turn.active ≤ length turn.visits.items
 
 abbrev pub IsOwn : OwnData → Type 0
+IsOwn (own_data.Few turn) = IsFewTurn turn.value
+IsOwn (own_data.FewShrunk turn) = IsFewTurn turn.value.turn
 IsOwn (own_data.Turn turn) = IsOwnTurn turn.value
 IsOwn (own_data.Push element) = ⊤
 

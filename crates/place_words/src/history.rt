@@ -3,8 +3,8 @@
 ghost use Rattle.std.specs.Prelude.{◌≡◌, IfOk};
 
 use crate::copying::{EqualCopy, copy_list};
-use crate::{Entries, FreePart, PackedBucket, PackedGlobal, PackedLocal, PackedOwn};
-use map_types::{DomainId, List, NoMemory, Numbers};
+use crate::{Entries, FreePart, PackedBucket, PackedGlobal, PackedLocal, PackedOwn, StrandSteps};
+use map_types::{DomainId, NoMemory, Numbers};
 use std::alloc::Global;
 
 /// What one turn of a lock did.
@@ -41,7 +41,7 @@ pub struct Strand {
     pub phase: u32,
     /// Ascending.
     pub cpus: Numbers,
-    pub steps: List<StrandStep>,
+    pub steps: StrandSteps,
 }
 
 /// One turn: the lock, and the place of its entry in that lock's history, from 0.
@@ -71,7 +71,7 @@ impl Strand {
         Ok(Strand {
             phase: self.phase,
             cpus: copy_list(&self.cpus, alloc)?,
-            steps: copy_list(&self.steps, alloc)?,
+            steps: self.steps.copy(alloc)?,
         })
     }
 }

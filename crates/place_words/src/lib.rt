@@ -20,6 +20,7 @@ mod packed_bucket;
 mod pair;
 mod shares;
 mod step;
+mod strand_steps;
 mod turn_logs;
 mod visits;
 
@@ -38,5 +39,6 @@ pub use packed::{OwnAt, PackedGlobal, PackedLocal, PackedOwn};
 pub use packed_bucket::PackedBucket;
 pub use shares::share;
 pub use step::{Lists, Step};
+pub use strand_steps::{StepBuffer, StepRow, StrandSteps};
 pub use turn_logs::{LoggedTurn, TurnLogs, TurnPlace};
 pub use visits::{Flush, Look, ShrinkNote, Try, Visit};

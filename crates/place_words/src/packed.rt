@@ -1,8 +1,9 @@
 //! Parts of list locks as they lie in an entry. One that has much to tell lies in a block of its own, so that the many small entries
 //! don't make room for it.
 
-ghost use Rattle.std.specs.Prelude.{◌≡◌, [], IfOk, MatchResult, option_map};
-ghost use Rattle.place_words.specs.Packed.{own_read, turn_of_own, IsOwnTurn};
+ghost use Rattle.std.specs.Prelude.{◌≡◌, ◌≤◌, ◌+◌, [], IfOk, MatchResult, Option, drop, length, option_map, take};
+ghost use Rattle.place_words.specs.Packed.{own_read, shrink_told, turn_of_few, turn_of_own, IsFewTurn, IsOwnTurn};
+ghost use Rattle.place_words.specs.declared.visits.ShrinkNote.{ShrinkNote};
 ghost use Rattle.place_words.specs.declared.list_part.GlobalPart.TheVariants as global;
 ghost use Rattle.place_words.specs.declared.list_part.LocalPart.TheVariants as local;
 ghost use Rattle.place_words.specs.declared.list_part.OwnPart.TheVariants as own;
@@ -227,14 +228,41 @@ pub struct PackedOwn {
 /// Where a part of an own set lies.
 #[derive(Drop)]
 pub(crate) enum OwnData {
-    /// In a block of its own: a turn of the lists.
+    /// In a block of its own: a turn of the lists whose rotation came by few elements, with no shrink.
+    Few(Box<FewTurn>),
+    /// The same with a shrink, in one block.
+    FewShrunk(Box<ShrunkTurn>),
+    /// In a block of its own, with another for what its rotation came by.
     Turn(Box<OwnTurn>),
     /// In place: a push of this element.
     Push(u32),
 }
 
-/// A turn of an own set. What the rotation came by lies side by side, active elements before inactive ones, and a shrink, which few
-/// turns have, in a block of its own.
+/// How many visits a turn has room for in its own block, which its clauses say too. A rotation of an own set makes at most four on
+/// each list, and on active only where inactive is shorter; a turn with more lies as `OwnTurn`.
+const FEW: usize = 4;
+
+/// A turn of an own set whose rotation came by few elements: active elements before inactive ones, and then visits that say nothing.
+#[derive(Drop)]
+pub(crate) struct FewTurn {
+    hash: u32,
+    /// So many of the elements that the rotation came by were active.
+    active: u8,
+    /// And so many inactive.
+    inactive: u8,
+    visits: [Visit; FEW],
+    got: Option<u32>,
+}
+
+/// A turn of an own set whose rotation came by few elements, with a shrink.
+#[derive(Drop)]
+pub(crate) struct ShrunkTurn {
+    turn: FewTurn,
+    shrink: ShrinkNote,
+}
+
+/// A turn of an own set whose rotation came by more elements. They lie side by side, active elements before inactive ones, and a
+/// shrink, which few turns have, in a block of its own.
 #[derive(Drop)]
 pub(crate) struct OwnTurn {
     hash: u32,
@@ -308,6 +336,9 @@ impl PackedOwn {
         ensures { IfOk result (λ packed. packed
             ≡ own.Turn hash active.now inactive.now shrink got) }
     {
+        if active.len() + inactive.len() <= FEW {
+            return few_packed(alloc, few_turn(hash, active, inactive, got), shrink);
+        }
         let turn = own_turn(alloc, hash, active, inactive, shrink, got)?;
         Ok(PackedOwn {
             data: OwnData::Turn(Box::new(alloc, turn)?),
@@ -328,6 +359,8 @@ impl PackedOwn {
         ensures { own_read result ≡ self.now }
     {
         match &self.data {
+            OwnData::Few(turn) => few_read(turn, None),
+            OwnData::FewShrunk(turn) => few_read(&turn.turn, Some(&turn.shrink)),
             OwnData::Turn(turn) => turn_read(turn),
             OwnData::Push(element) => OwnAt::Push { element: *element },
         }
@@ -380,6 +413,64 @@ impl EqualCopy for PackedOwn {
     }
 }
 
+/// A turn of an own set whose rotation came by few elements.
+fn few_turn(hash: u32, active: &[Visit], inactive: &[Visit], got: Option<u32>) -> FewTurn
+    requires { length active.now + length inactive.now ≤ 4 }
+    ensures turn { (shrink : Option ShrinkNote) → turn_of_few result shrink ≡ own.Turn hash active.now inactive.now shrink got }
+    ensures few { IsFewTurn result }
+{
+    FewTurn {
+        hash,
+        active: active.len() as u8,
+        inactive: inactive.len() as u8,
+        visits: visits_behind(first_visits(active), active.len(), inactive),
+        got,
+    }
+}
+
+/// Such a turn in a block, with its shrink, if there was one.
+fn few_packed(
+    alloc: Global,
+    turn: FewTurn,
+    shrink: Option<ShrinkNote>,
+) -> Result<PackedOwn, NoMemory>
+    requires { IsFewTurn turn }
+    ensures { IfOk result (λ packed. packed ≡ turn_of_few turn shrink) }
+{
+    match shrink {
+        Some(shrink) => Ok(PackedOwn {
+            data: OwnData::FewShrunk(Box::new(alloc, ShrunkTurn { turn, shrink })?),
+        }),
+        None => Ok(PackedOwn {
+            data: OwnData::Few(Box::new(alloc, turn)?),
+        }),
+    }
+}
+
+/// An array that begins with these visits.
+fn first_visits(visits: &[Visit]) -> [Visit; FEW]
+    requires { length visits.now ≤ 4 }
+    ensures { take (length visits.now) result ≡ visits.now }
+{
+    let mut room = [Visit {
+        element: 0,
+        bit: false,
+    }; FEW];
+    room[..visits.len()].copy_from_slice(visits);
+    room
+}
+
+/// An array with these visits at a place, and what it had before it.
+fn visits_behind(room: [Visit; FEW], start: usize, visits: &[Visit]) -> [Visit; FEW]
+    requires { start + length visits.now ≤ 4 }
+    ensures before { take start result ≡ take start room }
+    ensures here { take (length visits.now) (drop start result) ≡ visits.now }
+{
+    let mut room = room;
+    room[start..start + visits.len()].copy_from_slice(visits);
+    room
+}
+
 /// A turn of an own set, with what its rotation came by side by side.
 fn own_turn(
     alloc: Global,
@@ -411,6 +502,22 @@ fn own_turn(
     })
 }
 
+/// A turn of an own set whose rotation came by few elements, read where it lies.
+fn few_read<'a>(turn: &'a FewTurn, shrink: Option<&'a ShrinkNote>) -> OwnAt<'a>
+    requires { IsFewTurn turn.now }
+    ensures { own_read result ≡ turn_of_few turn.now (option_map (λ note. note.now) shrink.entry) }
+{
+    let active = turn.active as usize;
+    let past = active + turn.inactive as usize;
+    OwnAt::Turn {
+        hash: turn.hash,
+        active: &turn.visits[..active],
+        inactive: &turn.visits[active..past],
+        shrink,
+        got: turn.got,
+    }
+}
+
 /// A turn of an own set, read where it lies.
 fn turn_read(turn: &OwnTurn) -> OwnAt<'_>
     requires { IsOwnTurn turn.now }
@@ -421,11 +528,18 @@ fn turn_read(turn: &OwnTurn) -> OwnAt<'_>
         hash: turn.hash,
         active: &turn.visits[..active],
         inactive: &turn.visits[active..],
-        shrink: match &turn.shrink {
-            Some(shrink) => Some(shrink),
-            None => None,
-        },
+        shrink: shrink_at(&turn.shrink),
         got: turn.got,
+    }
+}
+
+/// A shrink, if there is one, read where it lies.
+fn shrink_at(shrink: &Option<Box<ShrinkNote>>) -> Option<&ShrinkNote>
+    ensures { option_map (λ note. note.now) result ≡ shrink_told shrink.now }
+{
+    match shrink {
+        Some(shrink) => Some(shrink),
+        None => None,
     }
 }
 

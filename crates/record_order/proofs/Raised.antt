@@ -1,9 +1,9 @@
 -- What the steps of a strand make of the least tickets.
-use Rattle.std.proofs.Common.{◌≡◌, ◌≢◌, ◌⊎◌, inl, inr, ℕ, zero, suc, ◌<◌, ◌≤◌, max, List, [], ◌∷◌, length, get_or, set, refl, ap, sym, ◌∙◌, subst, ⊎_elim, arith, Some}
+use Rattle.std.proofs.Common.{◌≡◌, ◌≢◌, ◌⊎◌, inl, inr, ℕ, zero, suc, ◌+◌, ◌<◌, ◌≤◌, max, List, [], ◌∷◌, length, drop, get_or, set, refl, ap, sym, ◌∙◌, subst, ⊎_elim, arith, Some}
 use Rattle.std.specs.Prelude.{slice_get}
 use Rattle.std.proofs.lemmas.Bool.{cases_eq, cases_lt}
 use Rattle.std.proofs.Math.ListN.{get_or-eq_default}
-use Rattle.std.proofs.lemmas.List.{length-set, get_or-set_same, get_or-set_other}
+use Rattle.std.proofs.lemmas.List.{drop_more, length-set, get_or-set_same, get_or-set_other}
 use Rattle.std.proofs.lemmas.Option.{none-some, same_Some}
 use Rattle.place_words.specs.declared.history.Strand.{Strand}
 use Rattle.place_words.specs.declared.history.StrandStep.{StrandStep}
@@ -19,6 +19,17 @@ module _ (number : StrandStep → ℕ) (ts : List ℕ) where
   -- the least ticket that may follow a step's
   abbrev pub behind : StrandStep → ℕ
   behind step = next_least (get_or ts (number step) 0)
+
+  -- a loop over the steps, one step on
+  pub raised_on : (steps : List StrandStep) (i : ℕ) (step : StrandStep) (leasts now : List ℕ) (least next n : ℕ) → i < length steps → get_or steps i step ≡ step → n ≡ number step
+      → next ≡ next_least (get_or ts n 0) → now ≡ set leasts n (max (get_or leasts n 0) least) → (all : List ℕ) → raised number ts least (drop i steps) leasts ≡ all
+      → raised number ts next (drop (i + 1) steps) now ≡ all
+  raised_on steps i step leasts now least next n less at numbered is raised_there all before =
+      let left : drop i steps ≡ step ∷ drop (i + 1) steps = drop_more steps i step less ∙ ap (λ (s : StrandStep). s ∷ drop (i + 1) steps) at in
+      (λ j. raised number ts (is j) (drop (i + 1) steps) (raised_there j))
+      ∙ ap (λ (k : ℕ). raised number ts (next_least (get_or ts k 0)) (drop (i + 1) steps) (set leasts k (max (get_or leasts k 0) least))) numbered
+      ∙ ap (λ (rest : List StrandStep). raised number ts least rest leasts) (sym left)
+      ∙ before
 
   pub raised_long : (least : ℕ) (steps : List StrandStep) (leasts : List ℕ) → length (raised number ts least steps leasts) ≡ length leasts
   raised_long least [] leasts = refl

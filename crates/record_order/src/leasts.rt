@@ -3,11 +3,12 @@
 ghost use Rattle.std.specs.Prelude.{◌≡◌, ◌++◌, ◌+◌, ◌<◌, All, IfOk, OnOk, length, slice_index_or};
 ghost use Rattle.map_types.specs.Creation.{IsShape};
 ghost use Rattle.place_words.specs.Locks.{is_lock, lock_count, lock_number};
+ghost use Rattle.place_words.specs.StrandSteps.{row_read};
 ghost use Rattle.place_words.specs.Tickets.{tickets_of};
 ghost use Rattle.record_order.specs.TicketTables.{HasNumber, least_after, leasts_on_locks, next_least, number_by, raised, raised_for_all};
 
 use map_types::{NoMemory, Shape};
-use place_words::{Entries, LockHistory, Strand, StrandStep, lock_number};
+use place_words::{Entries, LockHistory, StepRow, Strand, StrandStep, lock_number};
 use std::alloc::Global;
 
 /// The least tickets by the histories, in the order of the locks.
@@ -48,21 +49,21 @@ pub(crate) fn raise_for_all(
     ensures { leasts.new ≡ raised_for_all (number_by shape.now firsts.now) tickets.now strands.now leasts.old }
 {
     for strand in strands {
-        raise(leasts, tickets, shape, firsts, strand.steps.as_slice());
+        raise(leasts, tickets, shape, firsts, strand.steps.row());
     }
 }
 
 /// Raises them by a strand: what stands after an entry there has a greater ticket.
-fn raise(leasts: &mut [u64], tickets: &[u64], shape: &Shape, firsts: &[u64], steps: &[StrandStep])
+fn raise(leasts: &mut [u64], tickets: &[u64], shape: &Shape, firsts: &[u64], steps: StepRow<'_>)
     requires shape { IsShape shape.now }
     requires firsts { length firsts.now ≡ lock_count shape.now }
     requires long { length leasts.old ≡ length tickets.now }
-    requires numbered { All (HasNumber shape.now firsts.now (length tickets.now)) steps.now }
-    ensures { leasts.new ≡ raised (number_by shape.now firsts.now) tickets.now 0 steps.now leasts.old }
+    requires numbered { All (HasNumber shape.now firsts.now (length tickets.now)) (row_read steps) }
+    ensures { leasts.new ≡ raised (number_by shape.now firsts.now) tickets.now 0 (row_read steps.entry) leasts.old }
 {
     let mut least = 0u64;
-    for step in steps {
-        let number = number_by(shape, firsts, *step, tickets.len());
+    for index in 0..steps.len() {
+        let number = number_by(shape, firsts, steps.at(index), tickets.len());
         leasts[number] = leasts[number].max(least);
         least = tickets[number].saturating_add(1);
     }

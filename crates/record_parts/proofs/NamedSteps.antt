@@ -1,5 +1,5 @@
 -- The marks by which it is judged that the steps of a strand are in order, step after step.
-use Rattle.std.proofs.Common.{◌≡◌, ℕ, suc, ◌+◌, ◌<◌, Bool, true, false, cond, leb, ◌&&◌, List, length, get_or, replicate, set, drop, refl, ap, sym, ◌∙◌, subst, inl, inr, arith}
+use Rattle.std.proofs.Common.{◌≡◌, ℕ, suc, ◌+◌, ◌<◌, Bool, true, false, cond, leb, ◌&&◌, List, ◌∷◌, length, get_or, replicate, set, drop, refl, ap, sym, ◌∙◌, subst, inl, inr, arith}
 use Rattle.std.proofs.Math.Path.{fun_ext}
 use Rattle.std.proofs.Math.ListN.{length-set}
 use Rattle.std.specs.Prelude.{slice_get}
@@ -53,20 +53,28 @@ both_true : (x y z : Bool) → x ≡ true → y ≡ true → ((x && y) && z) ≡
 both_true true y z so second = ap (λ (b : Bool). b && z) second
 both_true false y z so second = absurd cc
 
-pub named_step : (shape : Shape) (histories : List LockHistory) (test : Entry → Bool) (stamp : ℕ) (marks now : List Mark) (number : ℕ) (steps : List StrandStep) (i : ℕ) (d : StrandStep)
-    → i < length steps → passes test (slice_get (entries_of histories (get_or steps i d).lock) (get_or steps i d).index) ≡ true
-    → number ≡ lock_number shape (get_or steps i d).lock → leb (froms stamp marks number) (get_or steps i d).index ≡ true → number < length marks
-    → now ≡ set marks number (record { stamp = stamp; last = (get_or steps i d).index })
+pub named_step : (shape : Shape) (histories : List LockHistory) (test : Entry → Bool) (stamp : ℕ) (marks now : List Mark) (number : ℕ) (steps : List StrandStep) (i : ℕ) (step : StrandStep)
+    → i < length steps → get_or steps i step ≡ step → passes test (slice_get (entries_of histories step.lock) step.index) ≡ true
+    → number ≡ lock_number shape step.lock → leb (froms stamp marks number) step.index ≡ true → number < length marks
+    → now ≡ set marks number (record { stamp = stamp; last = step.index })
     → are_named shape histories test (froms stamp now) (drop (i + 1) steps) ≡ are_named shape histories test (froms stamp marks) (drop i steps)
-named_step shape histories test stamp marks now number steps i d less passing numbered least within is =
-    let step : StrandStep = get_or steps i d in
+named_step shape histories test stamp marks now number steps i step less at passing numbered least within is =
     let moved : froms stamp now ≡ put (froms stamp marks) (lock_number shape step.lock) (suc step.index) =
     ap (froms stamp) is ∙ (froms_set stamp marks number step.index within ∙ ap (λ (k : ℕ). put (froms stamp marks) k (suc step.index)) numbered) in
     let least_there : leb (froms stamp marks (lock_number shape step.lock)) step.index ≡ true = ap (λ (k : ℕ). leb (froms stamp marks k) step.index) (sym numbered) ∙ least in
     ap (λ (from : ℕ → ℕ). are_named shape histories test from (drop (i + 1) steps)) moved
     ∙ (sym (both_true (passes test (slice_get (entries_of histories step.lock) step.index)) (leb (froms stamp marks (lock_number shape step.lock)) step.index)
     (are_named shape histories test (put (froms stamp marks) (lock_number shape step.lock) (suc step.index)) (drop (i + 1) steps)) passing least_there)
-    ∙ ap (are_named shape histories test (froms stamp marks)) (sym (drop_more steps i d less)))
+    ∙ ap (are_named shape histories test (froms stamp marks)) (sym (drop_more steps i step less ∙ ap (λ (s : StrandStep). s ∷ drop (i + 1) steps) at)))
+
+-- a step that isn't right
+pub not_named : (shape : Shape) (histories : List LockHistory) (test : Entry → Bool) (from : ℕ → ℕ) (steps : List StrandStep) (i : ℕ) (step : StrandStep)
+    → i < length steps → get_or steps i step ≡ step
+    → (passes test (slice_get (entries_of histories step.lock) step.index) && leb (from (lock_number shape step.lock)) step.index) ≡ false
+    → are_named shape histories test from (drop i steps) ≡ false
+not_named shape histories test from steps i step less at wrong =
+    ap (are_named shape histories test from) (drop_more steps i step less ∙ ap (λ (s : StrandStep). s ∷ drop (i + 1) steps) at)
+    ∙ ap (λ (b : Bool). b && are_named shape histories test (put from (lock_number shape step.lock) (suc step.index)) (drop (i + 1) steps)) wrong
 
 -- at first nothing is marked
 pub none_marked : (shape : Shape) (n : ℕ) (marks : List Mark) → n ≡ lock_count shape → marks ≡ replicate n nothing_marked → AreMarks shape 1 marks

@@ -1,8 +1,9 @@
 -- Each step of a strand is of a call of one of its CPUs.
-use Rattle.std.proofs.Common.{◌≡◌, ℕ, suc, ◌-◌, Bool, true, false, ◌&&◌, List, [], ◌∷◌, Option, None, Some, refl, ap, sym, ◌∙◌, arith}
+use Rattle.std.proofs.Common.{◌≡◌, ℕ, suc, ◌+◌, ◌-◌, ◌<◌, Bool, true, false, ◌&&◌, List, [], ◌∷◌, Option, None, Some, length, get_or, take, refl, subst, ap, sym, ◌∙◌, arith}
 use Rattle.std.specs.Prelude.{◌==◌, nat_le, slice_get, IsTrue, option_map, unwrap_or}
 use Rattle.std.specs.List.{list_all}
 use Rattle.std.proofs.lemmas.Bool.{and_parts, both_ways}
+use Rattle.std.proofs.lemmas.List.Folds.{list_all_more}
 use Rattle.map_types.specs.declared.call.Call.{Call}
 use Rattle.map_types.specs.ElementLists.{put}
 use Rattle.map_script.specs.declared.script.Script.{Script}
@@ -24,14 +25,21 @@ use Rattle.record_parts.proofs.StrandJudged.{fits, right_named}
 use Rattle.record_parts.proofs.StrandLaws.{apart_in}
 use Rattle.record_parts.specs.PartLaws.{RecordsHaveTheirStrands}
 
+both : (a b : Bool) → a ≡ true → b ≡ true → (a && b) ≡ true
+both true b first second = second
+both false b first second = absurd (both_ways false refl first)
+
+-- a loop over steps, one step on
+pub own_more : (test : StrandStep → Bool) (read steps : List StrandStep) (i : ℕ) (step : StrandStep) → read ≡ steps → i < length read → get_or read i step ≡ step
+    → test step ≡ true → list_all test (take i steps) ≡ true → list_all test (take (i + 1) steps) ≡ true
+own_more test read steps i step same less at own before =
+    subst (λ (l : List StrandStep). list_all test (take i l) ≡ true → list_all test (take (i + 1) l) ≡ true) same
+    (λ so_far. list_all_more test read i step less ∙ both (list_all test (take i read)) (test (get_or read i step)) so_far (ap test at ∙ own)) before
+
 -- what passes a test is there
 named_entry : (test : Entry → Bool) (o : Option Entry) → passes test o ≡ true → (entry : Entry) × (o ≡ Some entry) × (test entry ≡ true)
 named_entry test None is = absurd (both_ways false refl is)
 named_entry test (Some entry) is = (entry, refl, is)
-
-both : (a b : Bool) → a ≡ true → b ≡ true → (a && b) ≡ true
-both true b first second = second
-both false b first second = absurd (both_ways false refl first)
 
 module _ (script : Script) (kept : RunRecord) (formed : IsWellFormed script) (well : WellShaped script kept) (is : IsRecord script kept) (strand : Strand) where
   one_own : (step : StrandStep) → IsTrue (is_lock script.shape step.lock) → passes (is_own script.cuts strand.phase strand.cpus) (slice_get (entries_of kept.histories step.lock) step.index) ≡ true

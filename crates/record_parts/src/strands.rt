@@ -159,8 +159,9 @@ fn are_own_calls(script: &Script, kept: &RunRecord, places: &[usize], strand: &S
     requires steps { AllFit (StepFits script.now.shape) strand.now.steps }
     ensures { result ≡ list_all (is_own_call script.now kept.now strand.now) strand.now.steps }
 {
-    let steps = strand.steps.as_slice();
-    for step in steps {
+    let steps = strand.steps.row();
+    for index in 0..steps.len() {
+        let step = steps.at(index);
         let entries = entries_at(&script.shape, kept.histories.as_slice(), places, step.lock);
         if !is_own_call(
             script.calls.as_slice(),
@@ -349,12 +350,13 @@ fn are_named(
     ensures named { result ≡ are_named shape.now histories.now (is_own cuts.now strand.now.phase strand.now.cpus) (λ _. 0) strand.now.steps }
     ensures marks { AreMarks shape.now (stamp + 1) marks.new.items }
 {
-    let steps = strand.steps.as_slice();
-    for step in steps {
+    let steps = strand.steps.row();
+    for index in 0..steps.len() {
+        let step = steps.at(index);
         let entries = entries_at(shape, histories, places, step.lock);
         let is_own = passes(cuts, strand, entries, step.index);
         let number = lock_number(shape, step.lock) as usize;
-        if !is_own || !is_next(*step, number, stamp, marks) {
+        if !is_own || !is_next(step, number, stamp, marks) {
             return false;
         }
     }

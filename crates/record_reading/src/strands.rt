@@ -13,7 +13,7 @@ use crate::lines::Lines;
 use crate::strand_lines::strand_line;
 use map_script::Script;
 use map_types::{List, NoMemory, Shape};
-use place_words::{Strand, StrandStep};
+use place_words::{StepBuffer, Strand, StrandStep, StrandSteps};
 use std::alloc::Global;
 
 /// A step.
@@ -40,13 +40,13 @@ fn read_steps(
     shape: &Shape,
     count: u64,
     lines: &mut Lines,
-) -> Result<Option<List<StrandStep>>, NoMemory>
+) -> Result<Option<StrandSteps>, NoMemory>
     requires { IsShape shape.now }
     ensures lines { IfOk result (Reads (so_many count (one_line (whole (step_part shape.now))))
         lines.old.0 lines.new.0) }
     ensures rest { lines.new.1 ≡ lines.old.1 }
 {
-    let mut steps = List::of(Vec::new(alloc));
+    let mut steps = StrandSteps::of(StepBuffer::new(alloc));
     for place in 0..count {
         let Some(step) = read_step(shape, lines)? else {
             return Ok(None);

@@ -25,6 +25,7 @@ use run_words::{Asked, Mode, WordsStop, asked_of};
 use script_source::script_from;
 use std::alloc::{AllocError, Global};
 use std::io::Write;
+use std::mem;
 use workload_gen::generate;
 
 /// A script that is to be run, as the words ask for it.
@@ -80,8 +81,8 @@ pub fn begin<S: Source, K: Sink>(
 
 impl Due {
     /// Ends the run of the script: writes what is due of its record, or in mode `copy` of the copy, and keeps the record and what
-    /// its map left, but in mode `compare` neither. The copy that is handed in is kept. The status is 0. Where memory was not found
-    /// a line is written, nothing is kept, and the status is 5. Where a write fails it is 4.
+    /// its map left, but in mode `compare` neither. The copy that is handed in is kept, and the script is left to the system. The
+    /// status is 0. Where memory was not found a line is written, nothing is kept, and the status is 5. Where a write fails it is 4.
     pub fn end<C: Drop, K: Sink>(
         self,
         alloc: Global,
@@ -102,7 +103,10 @@ impl Due {
             Ok(()) => 0,
             Err(_) => 4,
         };
-        let (kept, closed) = kept_in(self.asked.mode, kept, closed);
+        let Due { asked, script, .. } = self;
+        // A run ends soon, and the system takes back all memory at once.
+        mem::forget(script);
+        let (kept, closed) = kept_in(asked.mode, kept, closed);
         Finish {
             status,
             kept,

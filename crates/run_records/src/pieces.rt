@@ -2,13 +2,14 @@
 
 ghost use Rattle.std.specs.Prelude.{◌≡◌, ◌<◌, ◌+◌, ◌^◌, ◌∷◌, [], IfOk, take, drop};
 ghost use Rattle.std.specs.List.{range_with_len};
+ghost use Rattle.place_words.specs.StrandSteps.{row_read};
 ghost use Rattle.run_records.specs.Copies.{record_left};
 ghost use Rattle.run_records.specs.Parts.{behind_steps, cpus_of, cut_strands, first_steps, left_at, place_behind};
 
 use map_report::{PhaseStart, RunRecord};
 use map_types::{List, NoMemory, Reply};
 use place_table::Closed;
-use place_words::{LockHistory, Strand, StrandStep};
+use place_words::{LockHistory, StepBuffer, StepRow, Strand, StrandSteps};
 use std::alloc::Global;
 
 /// A strand of the record.
@@ -126,12 +127,12 @@ fn steps_at(
     strands: &[Strand],
     place: Place,
     count: usize,
-) -> Result<List<StrandStep>, NoMemory>
+) -> Result<StrandSteps, NoMemory>
     ensures { IfOk result (λ steps. steps ≡ take count (first_steps (left_at place strands.now))) }
 {
     match strands.get(place.strands) {
         Some(strand) => steps_from(alloc, &strand.steps, place.steps, count),
-        None => Ok(List::of(Vec::new(alloc))),
+        None => Ok(StrandSteps::of(StepBuffer::new(alloc))),
     }
 }
 
@@ -139,39 +140,28 @@ fn steps_at(
 /// strand's are.
 fn steps_from(
     alloc: Global,
-    steps: &List<StrandStep>,
+    steps: &StrandSteps,
     before: usize,
     count: usize,
-) -> Result<List<StrandStep>, NoMemory>
+) -> Result<StrandSteps, NoMemory>
     ensures { IfOk result (λ part. part ≡ take count (drop before steps.now)) }
 {
     if before == 0 && steps.len() <= count {
-        return all_steps(alloc, steps);
+        return steps.copy(alloc);
     }
-    Ok(List::of(some_steps(alloc, steps.as_slice(), before, count)?))
-}
-
-/// All steps of a strand. Those that are shared are not copied.
-fn all_steps(alloc: Global, steps: &List<StrandStep>) -> Result<List<StrandStep>, NoMemory>
-    ensures { IfOk result (λ part. part ≡ steps.now) }
-{
-    match steps.again() {
-        Some(same) => Ok(same),
-        None => Ok(List::of(Vec::from_slice(alloc, steps.as_slice())?)),
-    }
+    some_steps(alloc, steps.row(), before, count)
 }
 
 /// So many steps behind so many, or all that there are.
 fn some_steps(
     alloc: Global,
-    steps: &[StrandStep],
+    steps: StepRow<'_>,
     before: usize,
     count: usize,
-) -> Result<Vec<StrandStep>, NoMemory>
-    ensures { IfOk result (λ part. part.items ≡ take count (drop before steps.now)) }
+) -> Result<StrandSteps, NoMemory>
+    ensures { IfOk result (λ part. part ≡ take count (drop before (row_read steps.entry))) }
 {
-    let left = &steps[before.min(steps.len())..];
-    Ok(Vec::from_slice(alloc, &left[..count.min(left.len())])?)
+    steps.behind(before).first(count).copy(alloc)
 }
 
 /// The place behind so many steps more of its strand, or behind the strand where it has no more than these.

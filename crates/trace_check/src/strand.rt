@@ -2,11 +2,12 @@
 
 ghost use Rattle.std.specs.Prelude.{◌≡◌, ◌∷◌, [], ◌≤◌, All, MatchOption, None, Some, length, take, if◌then◌else◌};
 ghost use Rattle.place_words.specs.Entries.{part_read};
+ghost use Rattle.place_words.specs.StrandSteps.{row_read};
 ghost use Rattle.trace_check.specs.Reading.{same_turns};
 ghost use Rattle.trace_check.specs.Strand as strand;
 
 use map_types::{DomainId, Shape};
-use place_words::{LockHistory, PartAt, StrandStep};
+use place_words::{LockHistory, PartAt, StepRow, StrandStep};
 use std::marker::Model;
 
 /// A turn: its lock, and what was done under it.
@@ -30,26 +31,27 @@ impl<'a> Model for Turn<'a> {
 pub struct Turns<'a> {
     buckets: u32,
     histories: &'a [LockHistory],
-    steps: &'a [StrandStep],
+    steps: StepRow<'a>,
 }
 
 impl<'a> Model for Turns<'a> {
     ghost use Rattle.std.specs.Prelude.{All, List};
+    ghost use Rattle.place_words.specs.StrandSteps.{row_read};
     ghost use Rattle.place_words.specs.Turns.{Turn};
     ghost use Rattle.trace_check.specs.Strand.{IsEntry, turns_at};
 
     ghost Value = { List Turn };
 
-    ghost view = { λ t. turns_at t.buckets t.histories.now t.steps.now };
+    ghost view = { λ t. turns_at t.buckets t.histories.now (row_read t.steps) };
 
-    ghost invariant = { λ t. All (IsEntry t.buckets t.histories.now) t.steps.now };
+    ghost invariant = { λ t. All (IsEntry t.buckets t.histories.now) (row_read t.steps) };
 }
 
 impl<'a> Turns<'a> {
     /// Those that these steps name in the histories of a map's locks.
-    pub fn of(shape: &Shape, histories: &'a [LockHistory], steps: &'a [StrandStep]) -> Turns<'a>
-        requires { All (strand.IsEntry shape.now.buckets histories.now) steps.now }
-        ensures { result ≡ strand.turns_at shape.now.buckets histories.now steps.now }
+    pub fn of(shape: &Shape, histories: &'a [LockHistory], steps: StepRow<'a>) -> Turns<'a>
+        requires { All (strand.IsEntry shape.now.buckets histories.now) (row_read steps) }
+        ensures { result ≡ strand.turns_at shape.now.buckets histories.now (row_read steps.entry) }
     {
         Turns {
             buckets: shape.buckets,
@@ -79,7 +81,7 @@ impl<'a> Turns<'a> {
         let (step, rest) = self.steps.split_first()?;
         let turn = Turn {
             lock: step.lock,
-            part: part_at(self.buckets, self.histories, *step),
+            part: part_at(self.buckets, self.histories, step),
         };
         let behind = Turns {
             buckets: self.buckets,
@@ -108,7 +110,7 @@ impl<'a> Turns<'a> {
         Turns {
             buckets: self.buckets,
             histories: self.histories,
-            steps: &self.steps[..count],
+            steps: self.steps.first(count),
         }
     }
 }

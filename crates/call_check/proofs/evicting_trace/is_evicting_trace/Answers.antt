@@ -1,4 +1,5 @@
 use Rattle.std.proofs.Common.{◌≡◌, ℕ, List, None, Option, length, refl, ap, sym, ◌∙◌, subst}
+use Rattle.place_words.specs.StrandSteps.{row_read}
 use Rattle.place_words.specs.Turns.{TurnAt}
 use Rattle.place_words.specs.Traces.{IsTrace}
 use Rattle.replay_words.specs.declared.note.Note.TheVariants.{Nothing}
@@ -33,7 +34,7 @@ returns c =
     let kept = c.args.kept.now in
     let call = c.args.call.now in
     let reply = c.args.reply.now in
-    let row = c.args.row.now in
+    let row = row_read c.args.row in
     let turns : List TurnAt = turns_named kept.histories row in
     let spares : List TurnAt → Option ℕ = spare_first script.cuts script.shape kept.histories call.cpu in
     let seen : c.of-turns.result ≡ all_seen script.shape turns =

@@ -4,6 +4,7 @@ use Rattle.std.proofs.lemmas.Option.{slice_get-get_or}
 use Rattle.map_types.specs.declared.call.Call.{Call}
 use Rattle.map_types.specs.declared.reply.Reply.{Reply}
 use Rattle.place_words.specs.Phases.{phase_of}
+use Rattle.place_words.specs.StrandSteps.{row_read}
 use Rattle.place_words.specs.declared.history.Strand.{Strand}
 use Rattle.place_words.specs.declared.history.StrandStep.{StrandStep}
 use Rattle.record_shape.specs.ShapedParts.{StepFits}
@@ -69,8 +70,8 @@ run_end-to-requires-clause-steps c =
     let strand : Strand = get_or kept.strands home no_strand in
     let at : slice_get kept.strands home ≡ Some strand = slice_get-get_or kept.strands home no_strand there in
     let fit : StepsFit script.shape strand.steps = steps_fit script kept c.requires.record.formed c.requires.record.shaped home strand at in
-    let slice : c.steps_at-steps.result.now ≡ strand.steps = c.steps_at-steps.ensures strand (ap (λ (l : List Strand). slice_get l home) c.as_slice-4.ensures ∙ at) in
-    subst (λ (h : Histories). StepsFit h.shape c.steps_at-steps.result.now) (sym c.requires.tables.histories_are)
+    let slice : row_read c.steps_at-steps.result ≡ strand.steps = c.steps_at-steps.ensures strand (ap (λ (l : List Strand). slice_get l home) c.as_slice-4.ensures ∙ at) in
+    subst (λ (h : Histories). StepsFit h.shape (row_read c.steps_at-steps.result)) (sym c.requires.tables.histories_are)
     (subst (StepsFit script.shape) (sym slice) fit)
 
 pub run_end-to-requires-clause-from : goal.run_end-to-requires-clause-from
@@ -87,7 +88,7 @@ run_end-to-requires-clause-from c =
     let strand : Strand = get_or kept.strands home no_strand in
     let at : slice_get kept.strands home ≡ Some strand = slice_get-get_or kept.strands home no_strand there in
     let fit : StepsFit script.shape strand.steps = steps_fit script kept c.requires.record.formed c.requires.record.shaped home strand at in
-    let slice : c.steps_at-steps.result.now ≡ strand.steps = c.steps_at-steps.ensures strand (ap (λ (l : List Strand). slice_get l home) c.as_slice-4.ensures ∙ at) in
+    let slice : row_read c.steps_at-steps.result ≡ strand.steps = c.steps_at-steps.ensures strand (ap (λ (l : List Strand). slice_get l home) c.as_slice-4.ensures ∙ at) in
     let from : ℕ = c.cursor_at-from.result in
     let from_is : from ≡ get_or c.args.cursors.now.items home 0 = c.cursor_at-from.ensures ∙ ap (λ (l : List ℕ). get_or l home 0) c.as_slice-5.ensures.value in
     omega (arith, from_is, (c.requires.behind.are home strand at).within, ap length slice)
@@ -119,9 +120,12 @@ is_right_row-requires-clause-steps c =
     let strand : Strand = get_or kept.strands home no_strand in
     let at : slice_get kept.strands home ≡ Some strand = slice_get-get_or kept.strands home no_strand there in
     let fit : StepsFit script.shape strand.steps = steps_fit script kept c.requires.record.formed c.requires.record.shaped home strand at in
-    let slice : c.steps_at-steps.result.now ≡ strand.steps = c.steps_at-steps.ensures strand (ap (λ (l : List Strand). slice_get l home) c.as_slice-4.ensures ∙ at) in
-    part_fits (StepFits script.shape) (c.run_end-to.result - c.cursor_at-from.result) c.cursor_at-from.result c.steps_at-steps.result.now
-    (subst (StepsFit script.shape) (sym slice) fit)
+    let slice : row_read c.steps_at-steps.result ≡ strand.steps = c.steps_at-steps.ensures strand (ap (λ (l : List Strand). slice_get l home) c.as_slice-4.ensures ∙ at) in
+    let cut : row_read c.first-row.result ≡ take (c.run_end-to.result - c.cursor_at-from.result) (drop c.cursor_at-from.result (row_read c.steps_at-steps.result)) =
+    c.first-row.ensures ∙ ap (λ (l : List StrandStep). take (c.run_end-to.result - c.cursor_at-from.result) l) c.behind.ensures in
+    subst (StepsFit script.shape) (sym cut)
+    (part_fits (StepFits script.shape) (c.run_end-to.result - c.cursor_at-from.result) c.cursor_at-from.result (row_read c.steps_at-steps.result)
+    (subst (StepsFit script.shape) (sym slice) fit))
 
 pub is_right_row-requires-clause-named : goal.is_right_row-requires-clause-named
 is_right_row-requires-clause-named c =
@@ -137,9 +141,12 @@ is_right_row-requires-clause-named c =
     let strand : Strand = get_or kept.strands home no_strand in
     let at : slice_get kept.strands home ≡ Some strand = slice_get-get_or kept.strands home no_strand there in
     let fit : StepsFit script.shape strand.steps = steps_fit script kept c.requires.record.formed c.requires.record.shaped home strand at in
-    let slice : c.steps_at-steps.result.now ≡ strand.steps = c.steps_at-steps.ensures strand (ap (λ (l : List Strand). slice_get l home) c.as_slice-4.ensures ∙ at) in
-    part_fits (IsNamed script.shape kept.histories) (c.run_end-to.result - c.cursor_at-from.result) c.cursor_at-from.result c.steps_at-steps.result.now
-    (subst (AreNamed script.shape kept.histories) (sym slice) (steps_named script kept c.requires.record.formed c.requires.record.shaped c.requires.record.strands home strand at))
+    let slice : row_read c.steps_at-steps.result ≡ strand.steps = c.steps_at-steps.ensures strand (ap (λ (l : List Strand). slice_get l home) c.as_slice-4.ensures ∙ at) in
+    let cut : row_read c.first-row.result ≡ take (c.run_end-to.result - c.cursor_at-from.result) (drop c.cursor_at-from.result (row_read c.steps_at-steps.result)) =
+    c.first-row.ensures ∙ ap (λ (l : List StrandStep). take (c.run_end-to.result - c.cursor_at-from.result) l) c.behind.ensures in
+    subst (AreNamed script.shape kept.histories) (sym cut)
+    (part_fits (IsNamed script.shape kept.histories) (c.run_end-to.result - c.cursor_at-from.result) c.cursor_at-from.result (row_read c.steps_at-steps.result)
+    (subst (AreNamed script.shape kept.histories) (sym slice) (steps_named script kept c.requires.record.formed c.requires.record.shaped c.requires.record.strands home strand at)))
 
 pub is_right_row-requires-clause-call : goal.is_right_row-requires-clause-call
 is_right_row-requires-clause-call c =
@@ -166,17 +173,19 @@ returns-clause-right c =
     let strand : Strand = get_or kept.strands home no_strand in
     let at : slice_get kept.strands home ≡ Some strand = slice_get-get_or kept.strands home no_strand there in
     let fit : StepsFit script.shape strand.steps = steps_fit script kept c.requires.record.formed c.requires.record.shaped home strand at in
-    let slice : c.steps_at-steps.result.now ≡ strand.steps = c.steps_at-steps.ensures strand (ap (λ (l : List Strand). slice_get l home) c.as_slice-4.ensures ∙ at) in
+    let slice : row_read c.steps_at-steps.result ≡ strand.steps = c.steps_at-steps.ensures strand (ap (λ (l : List Strand). slice_get l home) c.as_slice-4.ensures ∙ at) in
     let from : ℕ = c.cursor_at-from.result in
     let from_is : from ≡ get_or c.args.cursors.now.items home 0 = c.cursor_at-from.ensures ∙ ap (λ (l : List ℕ). get_or l home 0) c.as_slice-5.ensures.value in
     let to : ℕ = c.run_end-to.result in
     let here : Histories = c.args.tables.now.histories in
-    let given : IsRow here.all (c.args.place + 1) c.steps_at-steps.result.now from to = record { up = c.run_end-to.ensures.from; within = c.run_end-to.ensures.to; row = c.run_end-to.ensures.row; end = c.run_end-to.ensures.end } in
+    let given : IsRow here.all (c.args.place + 1) (row_read c.steps_at-steps.result) from to = record { up = c.run_end-to.ensures.from; within = c.run_end-to.ensures.to; row = c.run_end-to.ensures.row; end = c.run_end-to.ensures.end } in
     let row : IsRow kept.histories (c.args.place + 1) strand.steps from to =
     subst (λ (h : Histories). IsRow h.all (c.args.place + 1) strand.steps from to) c.requires.tables.histories_are
     (subst (λ (l : List StrandStep). IsRow here.all (c.args.place + 1) l from to) slice given) in
+    let cut : row_read c.first-row.result ≡ take (to - from) (drop from strand.steps) =
+    c.first-row.ensures ∙ (ap (λ (l : List StrandStep). take (to - from) l) c.behind.ensures ∙ ap (λ (l : List StrandStep). take (to - from) (drop from l)) slice) in
     let answered : MatchBool c.in_ok-right.right (IsRightRow script kept (c.args.place + 1) call reply (take (to - from) (drop from strand.steps))) (IsRightRow script kept (c.args.place + 1) call reply (take (to - from) (drop from strand.steps)) → ⊥) =
-    subst (λ (l : List StrandStep). MatchBool c.in_ok-right.right (IsRightRow script kept (c.args.place + 1) call reply (take (to - from) (drop from l))) (IsRightRow script kept (c.args.place + 1) call reply (take (to - from) (drop from l)) → ⊥)) slice c.in_ok-right.ensures in
+    subst (λ (l : List StrandStep). MatchBool c.in_ok-right.right (IsRightRow script kept (c.args.place + 1) call reply l) (IsRightRow script kept (c.args.place + 1) call reply l → ⊥)) cut c.in_ok-right.ensures in
     judged_right script kept c.requires.record.formed c.requires.record.shaped c.requires.record.strands c.args.tables.now.strand_of.items c.requires.tables.lead c.args.place call at_call home home_is
     reply at_reply strand at c.args.cursors.now.items c.requires.behind from to from_is row c.in_ok-right.right answered
 
@@ -197,16 +206,18 @@ returns-clause-behind c =
     let strand : Strand = get_or kept.strands home no_strand in
     let at : slice_get kept.strands home ≡ Some strand = slice_get-get_or kept.strands home no_strand there in
     let fit : StepsFit script.shape strand.steps = steps_fit script kept c.requires.record.formed c.requires.record.shaped home strand at in
-    let slice : c.steps_at-steps.result.now ≡ strand.steps = c.steps_at-steps.ensures strand (ap (λ (l : List Strand). slice_get l home) c.as_slice-4.ensures ∙ at) in
+    let slice : row_read c.steps_at-steps.result ≡ strand.steps = c.steps_at-steps.ensures strand (ap (λ (l : List Strand). slice_get l home) c.as_slice-4.ensures ∙ at) in
     let from : ℕ = c.cursor_at-from.result in
     let from_is : from ≡ get_or c.args.cursors.now.items home 0 = c.cursor_at-from.ensures ∙ ap (λ (l : List ℕ). get_or l home 0) c.as_slice-5.ensures.value in
     let to : ℕ = c.run_end-to.result in
     let here : Histories = c.args.tables.now.histories in
-    let given : IsRow here.all (c.args.place + 1) c.steps_at-steps.result.now from to = record { up = c.run_end-to.ensures.from; within = c.run_end-to.ensures.to; row = c.run_end-to.ensures.row; end = c.run_end-to.ensures.end } in
+    let given : IsRow here.all (c.args.place + 1) (row_read c.steps_at-steps.result) from to = record { up = c.run_end-to.ensures.from; within = c.run_end-to.ensures.to; row = c.run_end-to.ensures.row; end = c.run_end-to.ensures.end } in
     let row : IsRow kept.histories (c.args.place + 1) strand.steps from to =
     subst (λ (h : Histories). IsRow h.all (c.args.place + 1) strand.steps from to) c.requires.tables.histories_are
     (subst (λ (l : List StrandStep). IsRow here.all (c.args.place + 1) l from to) slice given) in
+    let cut : row_read c.first-row.result ≡ take (to - from) (drop from strand.steps) =
+    c.first-row.ensures ∙ (ap (λ (l : List StrandStep). take (to - from) l) c.behind.ensures ∙ ap (λ (l : List StrandStep). take (to - from) (drop from l)) slice) in
     let answered : MatchBool c.in_ok-right.right (IsRightRow script kept (c.args.place + 1) call reply (take (to - from) (drop from strand.steps))) (IsRightRow script kept (c.args.place + 1) call reply (take (to - from) (drop from strand.steps)) → ⊥) =
-    subst (λ (l : List StrandStep). MatchBool c.in_ok-right.right (IsRightRow script kept (c.args.place + 1) call reply (take (to - from) (drop from l))) (IsRightRow script kept (c.args.place + 1) call reply (take (to - from) (drop from l)) → ⊥)) slice c.in_ok-right.ensures in
+    subst (λ (l : List StrandStep). MatchBool c.in_ok-right.right (IsRightRow script kept (c.args.place + 1) call reply l) (IsRightRow script kept (c.args.place + 1) call reply l → ⊥)) cut c.in_ok-right.ensures in
     judged_behind script kept c.requires.record.formed c.requires.record.shaped c.requires.record.strands c.args.tables.now.strand_of.items c.requires.tables.lead c.args.place call at_call home home_is
     reply at_reply strand at c.args.cursors.now.items c.requires.behind from to from_is row c.in_ok-right.right answered c.set_cursor.new.cursors.items c.set_cursor.ensures

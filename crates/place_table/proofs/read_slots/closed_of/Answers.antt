@@ -15,12 +15,12 @@ returns c = λ log lost bit strands contents told counted apart histories set fi
         lost_is = kept.are_kept.lost_is;
         strands_are = kept.told_are;
         finals_are = finals_left c.args.shape.now log bit c.args.spares.now contents told counted
-            c.args.emptied.lists.items c.args.emptied.freelists.items c.args.emptied.buckets.items _ apart
+            c.args.lists c.args.emptied.freelists.items c.args.emptied.buckets.items _ apart
             c.of.ensures
-            (c.of-2.ensures ∙ c.in_ok-freelists.ensures.freelists)
+            (c.of-2.ensures ∙ c.in_ok-freelists.ensures)
             c.in_ok-spares.ensures
-            (c.of-3.ensures ∙ c.in_ok-freelists.ensures.sets)
-            (c.of-4.ensures ∙ c.in_ok-freelists.ensures.locals)
+            c.of-3.ensures
+            c.of-4.ensures
             set;
       };
     }

@@ -3,5 +3,5 @@ use Rattle.std.specs.List.{list_all}
 use Rattle.record_flaws.specs.StrandFlaws.{is_own_call}
 use Rattle.record_parts.proofs.strands.are_own_calls.Given as goal
 
-abbrev pub invariant-loop-step : goal.invariant-loop-step
-invariant-loop-step l = list_all (is_own_call l.script l.kept l.strand) (take l.step-index l.strand.steps) ≡ true
+abbrev pub invariant-loop-index : goal.invariant-loop-index
+invariant-loop-index l = list_all (is_own_call l.script l.kept l.strand) (take l.index l.strand.steps) ≡ true

@@ -1,5 +1,6 @@
 use Rattle.std.proofs.Common.{refl, ap, ◌∙◌, ◌≡◌, ℕ, List, length, arith}
 use Rattle.map_types.proofs.CreationLemmas.{bounds_of_shape}
+use Rattle.place_words.specs.StrandSteps.{steps_made}
 use Rattle.place_table.specs.declared.content.Behind.{Behind}
 use Rattle.place_table.specs.declared.view.View.{View}
 use Rattle.place_table.specs.Words.{opening_words}
@@ -22,10 +23,10 @@ invariant_of-result c =
 
 pub invariant_of-result-in-Ok : goal.invariant_of-result-in-Ok
 invariant_of-result-in-Ok c =
-    first_is_pass c.args.shape.now (bounds_of_shape c.args.shape.now c.requires.shape) c.in-Ok.seat.me.0 c.in-Ok.seat.me.1 c.in_ok-strand.strand.items c.in_ok-spares.spares c.first_cpus.result c.none_made.result
+    first_is_pass c.args.shape.now (bounds_of_shape c.args.shape.now c.requires.shape) c.in-Ok.seat.me.0 c.in-Ok.seat.me.1 (steps_made c.in_ok-strand.strand) c.in_ok-spares.spares c.first_cpus.result c.none_made.result
     (ap (λ (me : View × List (ℕ × Behind)). me.0) c.in-Ok.ensures.ok.4)
     (ap (λ (me : View × List (ℕ × Behind)). me.1) c.in-Ok.ensures.ok.4)
-    c.in_ok-strand.ensures.items c.in_ok-spares.ensures c.first_cpus.ensures c.none_made.ensures.log c.none_made.ensures.ended (c.none_made.ensures.logs c.args.shape.now)
+    c.in_ok-strand.ensures c.in_ok-spares.ensures c.first_cpus.ensures c.none_made.ensures.log c.none_made.ensures.ended (c.none_made.ensures.logs c.args.shape.now)
 
 pub returns-in-Ok : goal.returns-in-Ok
 returns-in-Ok c = (

@@ -1,5 +1,6 @@
 use Rattle.std.proofs.Common.{ap, sym, subst, ◌∙◌}
 use Rattle.map_types.specs.declared.attr.Shape.{Shape}
+use Rattle.place_words.specs.StrandSteps.{steps_made}
 use Rattle.place_table.specs.declared.strands.TurnsMade.{TurnsMade}
 use Rattle.place_table.specs.Logged.{IsLogOf, HaveLogs}
 use Rattle.place_table.specs.Views.{current_strand, all_strands}
@@ -16,11 +17,11 @@ invariant_of-pass c =
     let ended = subst (λ (z : TurnsMade). AreFinished v.ended z.ended) was c.pass.invariant.ended_are in
     let logs = subst (λ (z : TurnsMade). HaveLogs v.shape v.ended z.logs) was c.pass.invariant.logs_are in
     let log = subst (λ (z : TurnsMade). IsLogOf v.shape v.steps v.kept z.log.items) was c.pass.invariant.log_is in
-    let ours = c.end_strand-ours.ensures.ended v.ended (current_strand v) ended c.pass.invariant.cpus_are (ap (λ z. z.items) c.replace-steps.ensures.value ∙ c.pass.invariant.strand_is) in
+    let ours = c.end_strand-ours.ensures.ended v.ended (current_strand v) ended c.pass.invariant.cpus_are (ap steps_made c.replace-steps.ensures.value ∙ c.pass.invariant.strand_is) in
     let our_logs = c.end_strand-ours.ensures.logs v.shape v.ended (current_strand v) logs log in
     let theirs = c.end_strand.ensures.ended u.ended (current_strand u) c.other.invariant.ended_are c.other.invariant.cpus_are c.other.invariant.strand_is in
     let their_logs = subst (λ (s : Shape). HaveLogs s (all_strands u) c.end_strand.result.logs) shapes (c.end_strand.ensures.logs u.shape u.ended (current_strand u) c.other.invariant.logs_are c.other.invariant.log_is) in
-    is_pass_joined v u _ _ _ _ _ _ _ _ _ _ _ _ _ _ _ c.pass.invariant c.other.invariant no_lock shapes c.merge_seat.ensures.joined (ap (λ z. z.items) c.replace-steps.ensures.after ∙ c.new.ensures.items)
+    is_pass_joined v u _ _ _ _ _ _ _ _ _ _ _ _ _ _ _ c.pass.invariant c.other.invariant no_lock shapes c.merge_seat.ensures.joined (ap steps_made c.replace-steps.ensures.after ∙ c.new.ensures)
     (c.add_cpus.ensures v.cpus u.cpus c.pass.invariant.cpus_are c.other.invariant.cpus_are)
     c.join_made.ensures.log (c.join_made.ensures.ended (all_strands v) (all_strands u) ours theirs)
     (c.join_made.ensures.logs v.shape (all_strands v) (all_strands u) our_logs their_logs) c.join_spares.ensures

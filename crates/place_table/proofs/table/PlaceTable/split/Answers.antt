@@ -1,5 +1,6 @@
 use Rattle.std.proofs.Common.{◌≡◌, true, [], ap, sym, subst, ◌∙◌}
 use Rattle.map_types.specs.Creation.{IsShape}
+use Rattle.place_words.specs.StrandSteps.{steps_made}
 use Rattle.place_table.specs.declared.strands.TurnsMade.{TurnsMade}
 use Rattle.place_table.specs.Logged.{IsLogOf, HaveLogs}
 use Rattle.place_table.specs.Views.{is_among, current_strand}
@@ -26,7 +27,7 @@ pub invariant_of-pass : goal.invariant_of-pass
 invariant_of-pass c =
     let no_lock = ap (λ (z : PassView). z.view.held) c.pass.view_is ∙ c.requires.in_no_call.holds_nothing in
     let new = sym c.replace-made.ensures.after in
-    is_pass_left c.args.cpu c.pass.invariant _ _ _ _ _ no_lock c.cut_seat-seat.ensures.left (ap (λ z. z.items) c.replace-steps.ensures.after ∙ c.new.ensures.items) (c.drop_cpu.ensures c.pass.inside.seat.me.0.cpus c.pass.invariant.cpus_are)
+    is_pass_left c.args.cpu c.pass.invariant _ _ _ _ _ no_lock c.cut_seat-seat.ensures.left (ap steps_made c.replace-steps.ensures.after ∙ c.new.ensures) (c.drop_cpu.ensures c.pass.inside.seat.me.0.cpus c.pass.invariant.cpus_are)
     (subst (λ (z : TurnsMade). z.log.items ≡ []) new c.none_made-new.ensures.log) (subst (λ (z : TurnsMade). AreFinished [] z.ended) new c.none_made-new.ensures.ended)
     (subst (λ (z : TurnsMade). HaveLogs c.pass.inside.seat.me.0.shape [] z.logs) new (c.none_made-new.ensures.logs c.pass.inside.seat.me.0.shape)) c.split_spares.ensures.gone c.split_spares.ensures.stay
 
@@ -38,8 +39,8 @@ invariant_of-result c =
     let ended = subst (λ (z : TurnsMade). AreFinished v.ended z.ended) was c.pass.invariant.ended_are in
     let logs = subst (λ (z : TurnsMade). HaveLogs v.shape v.ended z.logs) was c.pass.invariant.logs_are in
     let log = subst (λ (z : TurnsMade). IsLogOf v.shape v.steps v.kept z.log.items) was c.pass.invariant.log_is in
-    is_pass_off c.args.cpu c.pass.invariant _ _ _ _ _ has c.cut_seat-seat.ensures.right c.new-3.ensures.items c.one_cpu.ensures c.end_strand-made.ensures.log
-    (c.end_strand-made.ensures.ended v.ended (current_strand v) ended c.pass.invariant.cpus_are (ap (λ z. z.items) c.replace-steps.ensures.value ∙ c.pass.invariant.strand_is))
+    is_pass_off c.args.cpu c.pass.invariant _ _ _ _ _ has c.cut_seat-seat.ensures.right c.new-3.ensures c.one_cpu.ensures c.end_strand-made.ensures.log
+    (c.end_strand-made.ensures.ended v.ended (current_strand v) ended c.pass.invariant.cpus_are (ap steps_made c.replace-steps.ensures.value ∙ c.pass.invariant.strand_is))
     (c.end_strand-made.ensures.logs v.shape v.ended (current_strand v) logs log)
     c.split_spares.ensures.taken c.split_spares.ensures.no_others
 

@@ -1,5 +1,5 @@
 use Rattle.std.proofs.Common.{◌≡◌, ◌++◌, length}
-use Rattle.place_table.proofs.read_slots.local_free_left.Given as goal
+use Rattle.place_table.proofs.lists_left.local_free_left.Given as goal
 use Rattle.place_words.specs.Bodies.{numbers}
 
 -- what was popped stood at the head of what is left

@@ -1,6 +1,6 @@
 use Rattle.std.proofs.Common.{◌≡◌, map}
 use Rattle.place_table.specs.Leaving.{locals_in}
-use Rattle.place_table.proofs.read_slots.locals_left.Given as goal
+use Rattle.place_table.proofs.lists_left.locals_left.Given as goal
 
 -- the local lists so far
 abbrev pub invariant-loop-content : goal.invariant-loop-content

@@ -1,6 +1,6 @@
 use Rattle.std.proofs.Common.{◌≡◌, map}
 use Rattle.place_table.specs.Leaving.{set_in}
-use Rattle.place_table.proofs.read_slots.sets_left.Given as goal
+use Rattle.place_table.proofs.lists_left.sets_left.Given as goal
 
 -- the list sets so far
 abbrev pub invariant-loop-content : goal.invariant-loop-content
