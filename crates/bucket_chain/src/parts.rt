@@ -29,6 +29,7 @@ fn packed(alloc: Global, part: BucketPart) -> Result<Part, NoMemory>
 }
 
 /// The entry of a lookup that found no element.
+#[inline(always)]
 pub fn lookup_missed(alloc: Global, side: Side, key: &[u8]) -> Result<Part, NoMemory>
     ensures { IfOk result (λ part. part ≡ parts.Bucket (turns.Lookup side key.now None)) }
 {
@@ -36,6 +37,7 @@ pub fn lookup_missed(alloc: Global, side: Side, key: &[u8]) -> Result<Part, NoMe
 }
 
 /// The entry of a lookup that found an element with this value.
+#[inline(always)]
 pub fn lookup_got(
     alloc: Global,
     side: Side,
@@ -51,6 +53,7 @@ pub fn lookup_got(
 }
 
 /// The entry of a delete, and the element that is gone.
+#[inline(always)]
 pub fn deleted(alloc: Global, key: &[u8], gone: Option<u32>) -> Result<Part, NoMemory>
     ensures { IfOk result (λ part. part ≡ parts.Bucket (turns.Delete key.now gone)) }
 {
@@ -80,6 +83,7 @@ pub fn take_got(alloc: Global, key: &[u8], element: u32, value: &[u8]) -> Result
 }
 
 /// The entry of an update that was offered this element, if any, and did this.
+#[inline(always)]
 pub fn updated(
     alloc: Global,
     side: Side,

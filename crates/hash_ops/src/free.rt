@@ -88,14 +88,15 @@ impl PlainMap {
             unreachable!()
         };
         let popped = freelist.pop();
-        let part = match &popped {
+        let done = match &popped {
             Some(body) => {
                 let element = body.body().element();
                 self.table.claim(pass, element, lock);
-                Part::Free(FreePart::Popped(element))
+                FreePart::Popped(element)
             }
-            None => Part::Free(FreePart::FoundEmpty),
+            None => FreePart::FoundEmpty,
         };
+        let part = Part::Free(done);
         self.table
             .give(pass, lock, Content::Freelist(freelist), Some(part), gate);
         popped

@@ -6,7 +6,6 @@ ghost use Rattle.lru_lists.specs.Notes.{AreNoted};
 use map_types::List;
 use place_words::{Look, Try, Visit};
 use std::alloc::Global;
-use std::mem;
 
 /// Notes in order, or Lost where memory for one was not found.
 #[derive(Drop)]
@@ -24,13 +23,16 @@ impl<T: Drop> Noted<T> {
     }
 
     /// Notes one more, or loses all notes where memory for it isn't found. Lost notes stay lost.
+    #[inline(always)]
     pub fn note(&mut self, value: T)
         ensures { AreNoted (value ∷ []) self.old self.new }
     {
-        if let Noted::Kept(mut list) = mem::replace(self, Noted::Lost) {
-            if list.push(value).is_ok() {
-                *self = Noted::Kept(list);
-            }
+        let kept = match self {
+            Noted::Kept(list) => list.push(value).is_ok(),
+            Noted::Lost => return,
+        };
+        if !kept {
+            *self = Noted::Lost;
         }
     }
 }

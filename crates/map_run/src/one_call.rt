@@ -114,6 +114,7 @@ fn look_up<R: Wait, G: Gate>(
 }
 
 /// Updates a key.
+#[inline(always)]
 fn update<R: Wait, G: Gate>(
     rt: &R,
     map: &AnyMap,

@@ -91,6 +91,7 @@ pub(crate) fn unload(shared: &SharedTable, seat: &mut TableSeat, lock: u32) -> O
 
 /// Puts a content into the slot that was taken last, and records the turn there or in the log, and in the strand. Without a ticket the
 /// turn has no entry, and the history is given up. The entry comes back where it isn't recorded.
+#[inline(always)]
 pub(crate) fn put_back(
     shared: &SharedTable,
     seat: &mut TableSeat,
@@ -137,6 +138,7 @@ pub(crate) fn put_unrecorded(
 }
 
 /// What stands in a slot, with the content that it lacked, and with the turn recorded.
+#[inline(always)]
 fn fill(
     behind: &mut Behind,
     content: Content,
@@ -162,6 +164,7 @@ fn fill(
 
 /// The history with the entry, or the log with it, and the strand with its step. Where there was no history, or the turn can't be
 /// recorded, there is none from then on, log and strand stay, and the entry comes back.
+#[inline(always)]
 fn record_turn(
     strand: &mut StepBuffer,
     log: &mut Vec<LoggedTurn>,
@@ -186,6 +189,7 @@ fn record_turn(
 
 /// The turns with the entry behind them, or the log with it, and the strand with its step. Where it can't be recorded, log and strand
 /// stay, and the entry comes back.
+#[inline(always)]
 fn record_in(
     strand: &mut StepBuffer,
     log: &mut Vec<LoggedTurn>,
@@ -206,6 +210,7 @@ fn record_in(
 
 /// The turns with the entry behind them, and the strand with its step. Where there is no memory for both, or the part is none of this
 /// lock's, the strand stays, and the entry comes back.
+#[inline(always)]
 fn record_here(
     strand: &mut StepBuffer,
     entries: &mut Entries,
@@ -231,6 +236,7 @@ fn record_here(
 
 /// The log with the turn of a bucket, the strand with its step, and one turn more that is counted. Where there is no memory for
 /// both, the turn is none of a bucket, or its bucket has had 2^32 - 1 turns, log and strand stay, and the entry comes back.
+#[inline(always)]
 fn record_logged(
     strand: &mut StepBuffer,
     log: &mut Vec<LoggedTurn>,
@@ -282,6 +288,7 @@ fn record_logged(
 
 /// Draws the ticket of the turn of the lock that was taken last, which is still held. None where the ticket word has 2^63 or
 /// more: at most one draw for each CPU follows a look, so the word never passes 2^63 + 15.
+#[inline(always)]
 pub(crate) fn take_ticket(shared: &SharedTable, seat: &mut TableSeat, word: usize) -> Option<u64>
     requires table { seat.old.table_id ≡ shared.now.table_id }
     requires words { (shared.now.table_id.words ≡ word_count shared.now.key)
@@ -311,6 +318,7 @@ pub(crate) fn read_ticket(shared: &SharedTable, seat: &mut TableSeat, word: usiz
 }
 
 /// Gives back the lock that was taken last, with its slot.
+#[inline(always)]
 pub(crate) fn give_lock<N: Turn>(
     shared: &SharedTable,
     seat: &mut TableSeat,

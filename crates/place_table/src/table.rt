@@ -101,6 +101,7 @@ impl PlaceTable {
     }
 
     /// The same, where points are told by this thread alone.
+    #[inline(always)]
     pub fn take_at<R: Wait, P: Points>(
         &self,
         rt: &R,
@@ -124,6 +125,7 @@ impl PlaceTable {
     /// Gives back the lock that the pass took last, with a content to which an allowed part leads. A ticket is drawn for the
     /// turn first, and the part is recorded with it where there is memory for that. Where there is none, or no part, or the
     /// ticket word is found at 2^63 or more, the record of this lock's turns is lost for good.
+    #[inline(always)]
     pub fn give<G: Gate>(
         &self,
         pass: &mut Pass,
@@ -139,6 +141,7 @@ impl PlaceTable {
     }
 
     /// The same, where points are told by this thread alone.
+    #[inline(always)]
     pub fn give_at<P: Points>(
         &self,
         pass: &mut Pass,
@@ -158,6 +161,7 @@ impl PlaceTable {
     }
 
     /// Gives the lock back with a part, which is recorded where there is memory.
+    #[inline(always)]
     fn give_part(&self, pass: &mut Pass, lock: DomainId, content: Content, part: Part)
         requires { CanGive self.now lock pass.old content part }
         ensures { Gave pass.old pass.new part }

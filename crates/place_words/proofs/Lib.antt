@@ -93,6 +93,7 @@ pub mod PlainOpening
 pub mod ElementLemmas
 pub mod FrameLemmas
 pub mod RowLemmas
+pub mod PairWords
 pub mod OwnerSteps
 pub mod HomeSteps
 pub mod LockSteps

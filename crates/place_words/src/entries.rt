@@ -113,6 +113,7 @@ impl Entries {
     }
 
     /// How many turns there are.
+    #[inline(always)]
     pub fn len(&self) -> usize
         ensures { result ≡ length self.now }
     {
@@ -167,6 +168,7 @@ impl Entries {
 
     /// Adds a turn behind the others. Where there is no memory for it, its part is of another kind than the lock that these turns
     /// were begun for, or they stand in logs, nothing is changed, and the turn is given back.
+    #[inline(always)]
     pub fn push(&mut self, entry: Entry) -> Result<(), Entry>
         ensures { MatchResult result (λ _. self.new ≡ self.old ++ entry ∷ [])
             (λ back. (back ≡ entry) × (self.new ≡ self.old)) }
@@ -293,6 +295,7 @@ fn push_free(rows: &mut Vec<Row<FreePart>>, entry: Entry) -> Result<(), Entry>
 }
 
 /// Adds a turn of the lock of a CPU's local lists, or gives it back.
+#[inline(always)]
 fn push_local(rows: &mut Vec<Row<PackedLocal>>, entry: Entry) -> Result<(), Entry>
     ensures { MatchResult result (λ _. local_turns rows.new.items ≡ local_turns rows.old.items ++ entry ∷ [])
         (λ back. (back ≡ entry) × (rows.new.items ≡ rows.old.items)) }

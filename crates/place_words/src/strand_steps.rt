@@ -95,6 +95,7 @@ impl StepBuffer {
     }
 
     /// Adds a step, for which there is room.
+    #[inline(always)]
     pub fn push_reserved(&mut self, step: StrandStep)
         requires { HasRoom self.old }
         ensures { steps_made self.new ≡ steps_made self.old ++ step ∷ [] }

@@ -1,6 +1,6 @@
 //! The turns of a strand from some place on, which lie in the histories of the locks.
 
-ghost use Rattle.std.specs.Prelude.{◌≡◌, ◌∷◌, [], ◌≤◌, All, MatchOption, None, Some, length, take, if◌then◌else◌};
+ghost use Rattle.std.specs.Prelude.{◌≡◌, ◌∷◌, [], All, MatchOption, None, Some, length, take, if◌then◌else◌};
 ghost use Rattle.place_words.specs.Entries.{part_read};
 ghost use Rattle.place_words.specs.StrandSteps.{row_read};
 ghost use Rattle.trace_check.specs.Reading.{same_turns};
@@ -104,7 +104,6 @@ impl<'a> Turns<'a> {
 
     /// The first so many.
     pub fn first(&self, count: usize) -> Turns<'a>
-        requires { count ≤ length self.now }
         ensures { result ≡ take count self.now }
     {
         Turns {

@@ -1,7 +1,6 @@
-use Rattle.std.proofs.Common.{◌≡◌, ℕ, ◌+◌, ◌∙◌, List, Option, length, ap, sym, subst, arith}
+use Rattle.std.proofs.Common.{◌≡◌, ℕ, ◌+◌, length, ap, sym, subst, arith}
 use Rattle.map_types.proofs.CreationLemmas.{bounds_of_shape}
 use Rattle.place_words.specs.Locks.{first_freelist, lock_count}
-use Rattle.place_table.specs.declared.content.SlotTurns.{SlotTurns}
 use Rattle.place_table.specs.Leaving.{AreCounts, AreKept, HaveTurnsFrom}
 use Rattle.place_table.proofs.close.keep_others.Goals as goal
 

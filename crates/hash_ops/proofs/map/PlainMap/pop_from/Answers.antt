@@ -1,6 +1,7 @@
 use Rattle.std.proofs.Common.{◌≡◌, ℕ, ◌<◌, sym, ap, ◌∙◌, subst, Some, [], ◌∷◌}
 use Rattle.map_types.specs.Stored.{Stored}
 use Rattle.map_types.specs.declared.kind.DomainId.TheVariants.{Freelist}
+use Rattle.place_words.specs.declared.history.Part.TheVariants as parts
 use Rattle.place_table.specs.Passes.{TableView, CanClaim}
 use Rattle.hash_ops.specs.Free.{CanReach, PoppedAmong}
 use Rattle.hash_ops.proofs.FreeTurns.{can_take}
@@ -36,11 +37,11 @@ give-requires-after_bounds g c κs within =
     let cpu = c.args.cpu in
     let below : cpu < t.shape.cpus = subst (λ (x : TableView). cpu < x.shape.cpus) (sym c.self.view_is) c.requires.there in
     let can : CanReach t p = subst (λ (x : TableView). CanReach x p) (sym c.self.view_is) c.requires.can in
-    let under : LookedUnder cpu q c.match-popped.pass c.pop-popped.result c.match-popped.part = elim c.match-popped.branch [
-      | in-Some w ↦ under_some cpu q w.claim.new.pass c.match-popped.pass c.pop-popped.result w.in-Some.body w.element-element.result c.match-popped.part w.in-Some.is (w.element-element.ensures ∙ ap (λ (b : Stored). b.element) w.body.ensures) w.claim.ensures w.pass-is w.part-is
-      | in-None w ↦ under_none cpu q c.match-popped.pass c.pop-popped.result c.match-popped.part w.in-None.is w.pass-is w.part-is
+    let under : LookedUnder cpu q c.match-popped.pass c.pop-popped.result (parts.Free c.match-popped.done) = elim c.match-popped.branch [
+      | in-Some w ↦ under_some cpu q w.claim.new.pass c.match-popped.pass c.pop-popped.result w.in-Some.body w.element-element.result (parts.Free c.match-popped.done) w.in-Some.is (w.element-element.ensures ∙ ap (λ (b : Stored). b.element) w.body.ensures) w.claim.ensures w.pass-is (ap parts.Free w.done-is)
+      | in-None w ↦ under_none cpu q c.match-popped.pass c.pop-popped.result (parts.Free c.match-popped.done) w.in-None.is w.pass-is (ap parts.Free w.done-is)
     ] in
-    can_give_looked t cpu p q c.match-popped.pass c.in-Freelist.freelist c.pop-popped.new.self c.pop-popped.result c.match-popped.part c.in-Freelist.ensures can c.self.invariant.1 below c.pop-popped.ensures.top under
+    can_give_looked t cpu p q c.match-popped.pass c.in-Freelist.freelist c.pop-popped.new.self c.pop-popped.result (parts.Free c.match-popped.done) c.in-Freelist.ensures can c.self.invariant.1 below c.pop-popped.ensures.top under
 
 pub returns : goal.returns
 returns g c =
@@ -50,9 +51,9 @@ returns g c =
     let cpu = c.args.cpu in
     let below : cpu < t.shape.cpus = subst (λ (x : TableView). cpu < x.shape.cpus) (sym c.self.view_is) c.requires.there in
     let can : CanReach t p = subst (λ (x : TableView). CanReach x p) (sym c.self.view_is) c.requires.can in
-    let under : LookedUnder cpu q c.match-popped.pass c.pop-popped.result c.match-popped.part = elim c.match-popped.branch [
-      | in-Some w ↦ under_some cpu q w.claim.new.pass c.match-popped.pass c.pop-popped.result w.in-Some.body w.element-element.result c.match-popped.part w.in-Some.is (w.element-element.ensures ∙ ap (λ (b : Stored). b.element) w.body.ensures) w.claim.ensures w.pass-is w.part-is
-      | in-None w ↦ under_none cpu q c.match-popped.pass c.pop-popped.result c.match-popped.part w.in-None.is w.pass-is w.part-is
+    let under : LookedUnder cpu q c.match-popped.pass c.pop-popped.result (parts.Free c.match-popped.done) = elim c.match-popped.branch [
+      | in-Some w ↦ under_some cpu q w.claim.new.pass c.match-popped.pass c.pop-popped.result w.in-Some.body w.element-element.result (parts.Free c.match-popped.done) w.in-Some.is (w.element-element.ensures ∙ ap (λ (b : Stored). b.element) w.body.ensures) w.claim.ensures w.pass-is (ap parts.Free w.done-is)
+      | in-None w ↦ under_none cpu q c.match-popped.pass c.pop-popped.result (parts.Free c.match-popped.done) w.in-None.is w.pass-is (ap parts.Free w.done-is)
     ] in
     subst (λ (x : TableView). PoppedAmong x (cpu ∷ []) p c.give.new.pass c.pop-popped.result) c.self.view_is
-    (looked_once t cpu p q c.match-popped.pass c.give.new.pass c.in-Freelist.freelist c.pop-popped.new.self c.pop-popped.result c.match-popped.part c.in-Freelist.ensures can c.self.invariant.1 below c.pop-popped.ensures.top under c.give.ensures)
+    (looked_once t cpu p q c.match-popped.pass c.give.new.pass c.in-Freelist.freelist c.pop-popped.new.self c.pop-popped.result (parts.Free c.match-popped.done) c.in-Freelist.ensures can c.self.invariant.1 below c.pop-popped.ensures.top under c.give.ensures)

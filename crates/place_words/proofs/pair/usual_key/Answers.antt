@@ -1,0 +1,6 @@
+use Rattle.std.proofs.Common.{arith}
+use Rattle.place_words.proofs.PairWords.{all_from, key_of_words}
+use Rattle.place_words.proofs.pair.usual_key.Goals as goal
+
+pub returns-clause-key : goal.returns-clause-key
+returns-clause-key c = key_of_words c.args.key.now _ _ _ c.if-key.false c.word_of.ensures (all_from 8 _ c.args.key.now _ (omega arith) c.word_of-2.ensures)
