@@ -87,6 +87,7 @@ impl PlaceTable {
     }
 
     /// Waits for a lock of the map, above all that the pass holds, and takes what lies under it.
+    #[inline(always)]
     pub fn take<R: Wait, G: Gate>(
         &self,
         rt: &R,

@@ -258,6 +258,7 @@ impl<'a> StepRow<'a> {
 }
 
 /// The step in eight bytes, if it fits.
+#[inline(always)]
 fn packed_step(step: StrandStep) -> Option<PackedStep>
     ensures { IfSome result (λ packed. step_unpacked packed ≡ step) }
 {
@@ -272,6 +273,7 @@ fn packed_step(step: StrandStep) -> Option<PackedStep>
 }
 
 /// The code of a lock, where it has one.
+#[inline(always)]
 fn code_of_lock(lock: DomainId) -> Option<u32>
     ensures { IfSome result (λ code. lock_of_code code ≡ lock) }
 {
