@@ -166,6 +166,7 @@ impl Cells {
     }
 
     /// Takes the bodies before a place out, into a list in the other order.
+    #[inline(always)]
     fn take_front(&mut self, place: u32) -> Cells
         ensures front { result ≡ reverse (take place self.old) }
         ensures rest { self.new ≡ drop place self.old }
@@ -181,6 +182,7 @@ impl Cells {
     }
 
     /// Puts bodies before the head, from a list in the other order.
+    #[inline(always)]
     fn put_front(&mut self, mut front: Cells)
         ensures { self.new ≡ reverse front ++ self.old }
     {

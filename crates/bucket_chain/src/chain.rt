@@ -59,6 +59,7 @@ impl Chain {
     }
 
     /// The place of a key, where it is in the list, as in the kernel's `lookup_elem_raw`.
+    #[inline(always)]
     pub fn find(&self, key: &[u8]) -> Option<u32>
         ensures place { result ≡ place_of_key key.now self.now.bodies }
         ensures holder { MatchOption result (present key.now self.now.bodies ≡ None)
@@ -141,6 +142,7 @@ impl Chain {
     }
 
     /// Takes out the body at a place, where there is one.
+    #[inline(always)]
     pub fn take_out(&mut self, place: u32) -> Option<BoxedBody>
         ensures taken { result ≡ slice_get self.old.bodies place }
         ensures present { IsSome result ↔ (place < length self.old.bodies) }

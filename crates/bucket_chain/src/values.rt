@@ -30,6 +30,7 @@ pub fn read_value(shape: &Shape, side: Side, cpu: u32, body: &Body, out: &mut [u
 }
 
 /// Makes a body that of a key, with a value that a side writes on a CPU, as in the kernel's `alloc_htab_elem`.
+#[inline(always)]
 pub fn fill_body(
     shape: &Shape,
     side: Side,

@@ -1,7 +1,7 @@
 //! The entries of the turns of buckets. Each takes memory for its copies of keys, and only want of it refuses one. That of an
 //! empty bucket has no key to copy.
 
-ghost use Rattle.std.specs.Prelude.{◌≡◌, ◌<◌, ◌∷◌, [], false, All, IfOk};
+ghost use Rattle.std.specs.Prelude.{◌≡◌, ◌<◌, false, All, IfOk};
 ghost use Rattle.map_types.specs.Creation.{IsShape};
 ghost use Rattle.map_types.specs.declared.kind.Side.TheVariants.{Sys};
 ghost use Rattle.map_types.specs.Shape.{HasBounds};
@@ -16,7 +16,7 @@ ghost use Rattle.bucket_walks.specs.BatchReads.{all_read, walked_by};
 use bucket_chain::{Chain, body_at, read_value};
 use map_types::{Bytes, List, NoMemory, Shape, Side, value_len};
 use percpu_values::Body;
-use place_words::{BucketPart, Kept, NextFound, PackedBucket, Part, Walked};
+use place_words::{BucketPart, Kept, KeptValues, NextFound, PackedBucket, Part, Walked};
 use std::alloc::Global;
 
 /// What follows a key in its bucket.
@@ -157,7 +157,7 @@ fn copy_of(alloc: Global, shape: &Shape, cpu: u32, body: &Body) -> Result<Kept, 
     Ok(Kept {
         element: body.element(),
         key,
-        values: only(alloc, value)?,
+        values: KeptValues::one(value),
     })
 }
 
@@ -172,13 +172,4 @@ fn value_of(alloc: Global, shape: &Shape, cpu: u32, body: &Body) -> Result<Bytes
     let mut value = vec![in alloc; 0; value_len(shape, Side::Sys) as usize]?;
     read_value(shape, Side::Sys, cpu, body, &mut value);
     Bytes::from_slice(alloc, value.as_slice())
-}
-
-/// A list of one value.
-fn only(alloc: Global, value: Bytes) -> Result<List<Bytes>, NoMemory>
-    ensures { IfOk result (λ list. list ≡ value ∷ []) }
-{
-    let mut values = Vec::with_capacity(alloc, 1)?;
-    values.push(value)?;
-    Ok(List::of(values))
 }

@@ -104,6 +104,7 @@ impl<R: Rows> ListSet<R> {
     }
 
     /// Takes an element off active or inactive: None where it is on neither.
+    #[inline(always)]
     pub fn take_off(&mut self, element: u32) -> Option<Row>
         ensures taken { result ≡ row_on element self.old }
         ensures present { IsSome result ↔ IsListed element self.old }

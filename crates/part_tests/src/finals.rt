@@ -1,7 +1,14 @@
 //! Tests of what a map holds at the end of a run.
 
 use crate::Same;
-use place_words::{Finals, Kept, LocalFinal, SetFinal};
+use crate::same::are_same;
+use place_words::{Finals, Kept, KeptValues, LocalFinal, SetFinal};
+
+impl Same for KeptValues {
+    fn same(&self, other: &KeptValues) -> bool {
+        are_same(self.as_slice(), other.as_slice())
+    }
+}
 
 impl Same for Kept {
     fn same(&self, other: &Kept) -> bool {

@@ -2,13 +2,12 @@
 
 ghost use Rattle.std.specs.Prelude.{◌≡◌, ◌<◌, All, IfOk, length};
 ghost use Rattle.map_types.specs.Parts.{part_at};
-ghost use Rattle.map_types.specs.Sides.{part_count};
 ghost use Rattle.map_types.specs.Stored.{IsSized};
 
 use bucket_chain::Chain;
 use map_types::{Bytes, List, NoMemory, Shape};
 use percpu_values::Body;
-use place_words::Kept;
+use place_words::{Kept, KeptValues};
 use std::alloc::Global;
 
 /// A copy of a bucket, head first.
@@ -35,22 +34,22 @@ fn body_copy(alloc: Global, shape: &Shape, body: &Body) -> Result<Kept, NoMemory
     ensures { IfOk result (λ kept. kept ≡ body.now) }
 {
     let key = Bytes::from_slice(alloc, body.key())?;
-    let values = List::of(parts_of(alloc, part_count(shape), body)?);
     Ok(Kept {
         element: body.element(),
         key,
-        values,
+        values: values_copy(alloc, shape, body)?,
     })
 }
 
-/// How many parts the values of an element have.
-fn part_count(shape: &Shape) -> u32
-    ensures { result ≡ part_count shape.now }
+/// A copy of a body's values.
+fn values_copy(alloc: Global, shape: &Shape, body: &Body) -> Result<KeptValues, NoMemory>
+    requires sized { IsSized shape.now body.now }
+    ensures { IfOk result (λ values. values ≡ body.now.values) }
 {
     if shape.kind.is_percpu() {
-        shape.cpus
+        Ok(KeptValues::each(List::of(parts_of(alloc, shape.cpus, body)?)))
     } else {
-        1
+        Ok(KeptValues::one(own_of(alloc, 0, body)?))
     }
 }
 

@@ -12,6 +12,7 @@ pub mod Globals
 pub mod Handing
 pub mod Histories
 pub mod Interleaving
+pub mod KeptValues
 pub mod Locals
 pub mod Locks
 pub mod Logs

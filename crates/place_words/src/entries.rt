@@ -362,6 +362,7 @@ fn push_global(rows: &mut Vec<Row<PackedGlobal>>, entry: Entry) -> Result<(), En
 }
 
 /// Adds a turn of the lock of a CPU's own list set, or gives it back.
+#[inline(always)]
 fn push_own(rows: &mut Vec<Row<PackedOwn>>, entry: Entry) -> Result<(), Entry>
     ensures { MatchResult result (λ _. own_turns rows.new.items ≡ own_turns rows.old.items ++ entry ∷ [])
         (λ back. (back ≡ entry) × (rows.new.items ≡ rows.old.items)) }

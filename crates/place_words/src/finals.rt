@@ -3,6 +3,7 @@
 ghost use Rattle.std.specs.Prelude.{◌≡◌, IfOk};
 
 use crate::copying::{EqualCopy, copy_each, copy_list};
+use crate::kept_values::KeptValues;
 use map_types::{Bytes, List, NoMemory, Numbers};
 use std::alloc::Global;
 use std::marker::Model;
@@ -13,7 +14,7 @@ use std::marker::Model;
 pub struct Kept {
     pub element: u32,
     pub key: Bytes,
-    pub values: List<Bytes>,
+    pub values: KeptValues,
 }
 
 impl Model for Kept {
@@ -60,7 +61,7 @@ impl EqualCopy for Kept {
         Ok(Kept {
             element: self.element,
             key: self.key.copy(alloc)?,
-            values: copy_each(&self.values, alloc)?,
+            values: self.values.copy(alloc)?,
         })
     }
 }

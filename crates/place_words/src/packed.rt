@@ -301,6 +301,7 @@ impl Model for PackedOwn {
 
 impl PackedOwn {
     /// A part, in a block of its own.
+    #[inline(always)]
     pub fn new(alloc: Global, part: OwnPart) -> Result<PackedOwn, NoMemory>
         ensures { IfOk result (λ packed. packed ≡ part) }
     {
@@ -325,6 +326,7 @@ impl PackedOwn {
 
     /// A turn of the lists: which active and inactive elements its rotation came by, a shrink, if there was one, and which element,
     /// if any, it got for a key with this hash.
+    #[inline(always)]
     pub fn turn(
         alloc: Global,
         hash: u32,

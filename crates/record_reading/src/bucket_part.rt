@@ -12,8 +12,8 @@ use crate::numbers::{
 };
 use crate::values::{given_text, key_text, value, value_text};
 use crate::words::{behind, side_word};
-use map_types::{Bytes, List, NoMemory, Shape, Side};
-use place_words::{BucketPart, Kept, NextFound, Put, Seen, Walked};
+use map_types::{Bytes, NoMemory, Shape, Side};
+use place_words::{BucketPart, Kept, KeptValues, NextFound, Put, Seen, Walked};
 use std::alloc::Global;
 
 /// What one turn of a bucket's lock did.
@@ -429,12 +429,10 @@ impl Readable for Kept {
         let Some((value, rest)) = value(alloc, shape, Side::Sys, rest)? else {
             return Ok(None);
         };
-        let mut values = List::of(Vec::new(alloc));
-        values.push(value)?;
         let kept = Kept {
             element,
             key,
-            values,
+            values: KeptValues::one(value),
         };
         Ok(Some((kept, rest)))
     }

@@ -16,7 +16,7 @@ use crate::to_end::{ascends, numbers_to_end};
 use crate::values::key_text;
 use crate::words::behind;
 use map_types::{Bytes, DomainId, NoMemory, Numbers, Shape};
-use place_words::Kept;
+use place_words::{Kept, KeptValues};
 use std::alloc::Global;
 
 /// A value of one part, behind a blank.
@@ -64,7 +64,7 @@ pub(crate) fn stored_line(
     Ok(Some(Kept {
         element,
         key,
-        values,
+        values: KeptValues::each(values),
     }))
 }
 
