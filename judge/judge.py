@@ -20,6 +20,7 @@ def judge(text, report_text, is_race=False):
     script, report = read(text, report_text)
     check_forms(script, report, is_race)
     counts = check_record(script, report)
+    check_starts(script, report)
     exact = {phase for phase, cpus, _ in report.strands if len(cpus) == script.made.cpus}
     if script.version > 1:
         counts |= {"phases": len(script.phases), "phases in serial order": len(exact)}
@@ -35,7 +36,8 @@ def judge(text, report_text, is_race=False):
 
 def judge_record(text, report_text):
     """Raises Unlawful where the report isn't a record whose turns, as their tickets order them, may have been made: it tells
-    under which of FLAWS. What runs do besides isn't asked: which CPUs share a strand, and what the bits are."""
+    under which of FLAWS. What runs do besides isn't asked: which CPUs share a strand, at which ticket a phase starts beside
+    one without turns, and what the bits are."""
     return check_record(*read(text, report_text))
 
 
@@ -166,22 +168,27 @@ def check_strands(script, report):
 
 
 def check_phases(script, report):
-    """Phase 0 starts with nothing. At the start of each other one those before it are done: as many tickets were drawn as
-    they have entries, and each of these is below it."""
+    """Phase 0 starts with nothing. Each entry has a ticket from the start of its phase on, and below that of the next one."""
     made, starts = script.made, [start.ticket for start in report.phases]
     need(len(starts) == len(script.phases), "the number of phases")
     need(report.phases[0].ticket == 0 and not report.phases[0].marked, "the start of phase 0")
-    drawn = [0] * len(starts)
     for entries in report.histories.values():
         for entry in entries:
             phase = script.phase_of(entry.call)
-            drawn[phase] += 1
             need(entry.ticket >= starts[phase], f"the ticket {entry.ticket} of phase {phase} is below its start")
             is_before = phase + 1 == len(starts) or entry.ticket < starts[phase + 1]
             need(is_before, f"the ticket {entry.ticket} of phase {phase} isn't below the start of phase {phase + 1}")
     for phase, start in enumerate(report.phases):
-        need(start.ticket == sum(drawn[:phase]), f"the ticket of the start of phase {phase}")
         need(is_marked(made, start.marked), f"the elements that are marked at the start of phase {phase}")
+
+
+def check_starts(script, report):
+    """As many tickets were drawn before a phase as the phases before it have entries."""
+    of = collections.Counter(script.phase_of(entry.call) for entries in report.histories.values() for entry in entries)
+    drawn = 0
+    for phase, start in enumerate(report.phases):
+        need(start.ticket == drawn, f"the ticket of the start of phase {phase}")
+        drawn += of[phase]
 
 
 def is_marked(made, marked):

@@ -263,10 +263,13 @@ REFUSED = [
     ),
     ("inside", "a turn of a bucket that another CPU holds", "ticket 1: bucket 1 is held", exchange("bucket 1", 0, "freelist 1", 0)),
 ]
-# The same with edits that leave what no run leaves, and yet a record: of it neither bits nor the form of strands are asked.
+# The same with edits that leave what no run leaves, and yet a record: of it neither bits nor the form of strands are asked, nor that
+# starts of phases never fall.
 RECORDS = [
     ("alone", "a strand for each CPU where all calls are of one", apart()),
     ("joined", "a strand for each CPU in an empty phase", apart()),
+    ("parted", "a start that falls behind an empty phase", start(2, 0, [])),
+    ("joined", "a start above the number of entries", start(1, 13, [0])),
     ("parted", "a bit that no turn set", start(3, 13, [0])),
     ("spares", "an element that is marked on a map that doesn't evict", start(2, 5, [0])),
     ("phases", "a bit that the turns before don't leave", entry("local 0", 1, "first 1 0:0:r second 0", "first 1 0:1 second 1 0:r")),

@@ -147,7 +147,6 @@ module _ (script : Script) (kept : RunRecord) (formed : IsWellFormed script) (we
     on_cpus = on_cpus_is;
     one_each = parts.phases.one_each;
     first = parts.phases.first;
-    starts_rise = parts.phases.starts_rise;
     in_phases = parts.phases.in_phases;
     strand_of = parts.strands.strand_of;
     in_strand = parts.strands.in_strand;

@@ -31,8 +31,8 @@ abbrev pub entries_below : ℕ → List Entry → List Entry
 entries_below ticket entries = flat_map (λ t. filter (λ (entry : Entry). entry.ticket == t) entries) (range_with_len 0 ticket)
 
 -- Which of two turns of a CPU is earlier goes by the phases of their calls, and in one phase by their tickets, which are numbers of 64
--- bits. Where the phases are right that is the order of the tickets. Turns at one moment stand in the order of the locks, and on one
--- lock as its history has them.
+-- bits: a record's phases may start in another order than their tickets have, where nothing was drawn in one of them. Turns at one
+-- moment stand in the order of the locks, and on one lock as its history has them.
 unfoldable pub ticket_bound : ℕ
 ticket_bound = 2 ^ 64
 

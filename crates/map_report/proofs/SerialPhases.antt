@@ -34,7 +34,7 @@ use Rattle.place_words.proofs.Ascending.{ascend_to, ascend_from, ascend_within}
 use Rattle.place_words.proofs.OnLocks.{no_others}
 use Rattle.place_words.proofs.PlacedLaws.{AreLegal}
 use Rattle.map_report.specs.declared.record.PhaseStart.{PhaseStart}
-use Rattle.map_report.specs.Record.{IsRecord, IsInItsPhase, IsConcatenation, HoldsElements, EachAnswered, Tells, Ascend, has_cpu, locks_of, places_in}
+use Rattle.map_report.specs.Record.{IsRecord, StartsRise, IsInItsPhase, IsConcatenation, HoldsElements, EachAnswered, Tells, Ascend, has_cpu, locks_of, places_in}
 use Rattle.map_report.specs.Runs.{steps_of_calls, state_before, start_of, strand_of_phase, serial}
 use Rattle.map_report.specs.Serial.{opening}
 use Rattle.map_report.specs.Turns.{spare_at}
@@ -363,6 +363,10 @@ module _ (script : Script) (are : Rise 0 script.cuts (length script.calls)) (cre
         starts_from (p + 1) n (before p).next_ticket (subst (λ (q : ℕ). (before p).next_ticket ≤ (before q).next_ticket) next (start_next p)),
       )
 
+  starts_in_order : StartsRise (serial script)
+  unfolding serial
+  starts_in_order = starts_from 0 (phase_count cuts) 0 (omega arith)
+
   -- Spares: at first those of the opening, at the end those that are told, and between them those of the run
   spares : ℕ → ℕ → Option ℕ
   spares zero cpu = spare_at (opening shape) cpu
@@ -415,7 +419,6 @@ module _ (script : Script) (are : Rise 0 script.cuts (length script.calls)) (cre
               (all_of (locks_of shape) (λ lock. All (λ (entry : Entry). entry.cpu < shape.cpus) (end.logs lock)) on);
           one_each = length-map-range_with_len (λ p. start_of shape (before p)) 0 (phase_count cuts);
           first = ap (λ (l : List ℕ). Some (record { ticket = 0; marked = l })) (none_kept (range_with_len 0 shape.elements));
-          starts_rise = starts_from 0 (phase_count cuts) 0 (omega arith);
           in_phases = All-map (λ (history : LockHistory). All (IsInItsPhase cuts phases) history.entries) (λ lock. record { lock = lock; entries = end.logs lock }) (locks_of shape)
               (all_of (locks_of shape) (λ lock. All (IsInItsPhase cuts phases) (end.logs lock)) all_in_phases);
           strand_of = λ p cpu. p;
@@ -458,3 +461,7 @@ pub record_of_done : (script : Script) → IsShape script.shape → HasPhases sc
     → IsRecord script (serial script)
 record_of_done script created phases served spares answered holds =
     record_by_logs script (cuts_rise 0 script.cuts (length script.calls) (omega arith) phases.rise) created served spares holds answered
+
+-- And the tickets of its starts never fall.
+pub starts_of_done : (script : Script) → IsShape script.shape → HasPhases script.version (length script.calls) script.cuts → All (λ (call : Call). call.cpu < script.shape.cpus) script.calls → StartsRise (serial script)
+starts_of_done script created phases served = starts_in_order script (cuts_rise 0 script.cuts (length script.calls) (omega arith) phases.rise) created served

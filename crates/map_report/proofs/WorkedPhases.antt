@@ -119,10 +119,23 @@ too_early in_phase =
     let start : in_phase.start.ticket ≡ 3 = sym (ap (λ (found : Option PhaseStart). unwrap_or (option_map (λ (s : PhaseStart). s.ticket) found) 3) in_phase.start_is) in
     omega (arith, start, in_phase.from)
 
--- Nor does a start fall: where the second phase starts at ticket 3, a third one can't start at 0, not even if the second has no entries.
+-- A start may fall over a phase without turns: phases start at tickets 0, 3 and 0, call 1 of the first has ticket 1, and call 2 of the last
+-- has ticket 0.
+falling : List PhaseStart
+falling = (record { ticket = 0; marked = [] }) ∷ (record { ticket = 3; marked = [] }) ∷ (record { ticket = 0; marked = [] }) ∷ []
+
+before_none : IsInItsPhase (1 ∷ 1 ∷ []) falling (record { ticket = 1; cpu = 0; call = 1; part = parts.Bucket (First None) })
+unfolding falling
+before_none = record { start = record { ticket = 0; marked = [] }; start_is = refl; from = omega arith; to = omega arith }
+
+behind_none : IsInItsPhase (1 ∷ 1 ∷ []) falling (record { ticket = 0; cpu = 0; call = 2; part = parts.Bucket (First None) })
+unfolding falling
+behind_none = record { start = record { ticket = 0; marked = [] }; start_is = refl; from = omega arith; to = tt }
+
+-- In no run does it: where the second phase starts at ticket 3, a third one doesn't start at 0, not even if the second has no entries.
 start_falls : (entries : ℕ) → AreCuts 0 entries (0 ∷ 3 ∷ 0 ∷ []) → ⊥
 start_falls entries rise = omega (arith, rise.2.2.0)
 
--- And none is above the number of entries.
+-- And there none is above the number of entries.
 start_is_past : AreCuts 0 12 (0 ∷ 13 ∷ []) → ⊥
 start_is_past rise = omega (arith, rise.2.1)

@@ -217,17 +217,20 @@ Tells lists (CpuLru cpu) content = MatchOption (own_in content) ⊥ (λ set. sli
 Tells lists (Bucket bucket) content = in_bucket (slice_index_or lists.buckets bucket []) ≡ content
 Tells lists (Freelist cpu) content = on_freelist (slice_index_or lists.freelists cpu []) ≡ content
 
+-- The tickets of the starts of phases never fall, as cuts don't, and none is above the number of entries. No record need have that of a
+-- phase without turns; runs promise it.
+abbrev pub StartsRise : RunRecord → Type 0
+StartsRise kept = AreCuts 0 (length (all_entries kept.histories)) (map (λ (start : PhaseStart). start.ticket) kept.phases)
+
 -- A record of a run of the script, in whatever order the CPUs ran within each of its phases.
 pub record IsRecord (script : Script) (kept : RunRecord) : Type 0 where
   -- each lock of the map has one history, in the order of their numbers, and each replays by the kernel's rules
   pub locks : map (λ (history : LockHistory). history.lock) kept.histories ≡ locks_of script.shape
   pub legal : All (λ (history : LockHistory). IsLegal script.shape history.lock history.entries) kept.histories
   pub on_cpus : All (λ (history : LockHistory). All (λ (entry : Entry). entry.cpu < script.shape.cpus) history.entries) kept.histories
-  -- each phase has one start, and the first starts with nothing drawn and nothing marked; the tickets of the starts never fall, as
-  -- cuts don't, and none is above the number of entries; each entry is in the phase of its call
+  -- each phase has one start, and the first starts with nothing drawn and nothing marked; each entry is in the phase of its call
   pub one_each : length kept.phases ≡ phase_count script.cuts
   pub first : slice_get kept.phases 0 ≡ Some (record { ticket = 0; marked = [] })
-  pub starts_rise : AreCuts 0 (length (all_entries kept.histories)) (map (λ (start : PhaseStart). start.ticket) kept.phases)
   pub in_phases : All (λ (history : LockHistory). All (IsInItsPhase script.cuts kept.phases) history.entries) kept.histories
   -- in each phase each CPU is in one strand, which is of that phase
   pub strand_of : ℕ → ℕ → ℕ

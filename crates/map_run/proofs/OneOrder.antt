@@ -14,7 +14,7 @@ use Rattle.race_words.proofs.OwnersLook.{told_races_run}
 use Rattle.map_run.specs.Judged.{RacesPass}
 
 pub race_is_run : (script : Script) (kept : RunRecord) → HasBounds script.shape → IsRaceRecord script kept → CoreRun script.shape kept.histories
-race_is_run script kept bounds race = told_races_run script kept bounds race.is_record race.nests race.owners
+race_is_run script kept bounds race = told_races_run script kept bounds race.is_record race.starts_rise race.nests race.owners
 
 pub races_pass : ReportsAreJudged → RacesPass
 races_pass reports script kept copy said well ran is =

@@ -8,9 +8,9 @@ use Rattle.race_words.proofs.PlainLaw.{plain_races_run}
 use Rattle.race_words.proofs.SharedLaw.{shared_races_run}
 
 pub races_run : RacesRun
-races_run script kept bounds record_is nests looks = by (is_lru script.shape.kind) refl script.shape.common refl
+races_run script kept bounds record_is rise nests looks = by (is_lru script.shape.kind) refl script.shape.common refl
   where
     by : (lru : Bool) → is_lru script.shape.kind ≡ lru → (common : Bool) → script.shape.common ≡ common → CoreRun script.shape kept.histories
-    by false plain common common_is = plain_races_run script kept bounds plain record_is nests
-    by true lru false apart = own_races_run script kept bounds lru apart record_is nests looks
-    by true lru true shared = shared_races_run script kept bounds lru shared record_is nests looks
+    by false plain common common_is = plain_races_run script kept bounds plain record_is rise nests
+    by true lru false apart = own_races_run script kept bounds lru apart record_is rise nests looks
+    by true lru true shared = shared_races_run script kept bounds lru shared record_is rise nests looks

@@ -19,7 +19,7 @@ use Rattle.place_words.specs.Turns.{after_turn}
 use Rattle.place_words.proofs.LockLemmas.{named_by_number}
 use Rattle.place_words.proofs.OpeningLaws.{opening_placed}
 use Rattle.map_report.specs.declared.record.RunRecord.{RunRecord}
-use Rattle.map_report.specs.Record.{IsRecord}
+use Rattle.map_report.specs.Record.{IsRecord, StartsRise}
 use Rattle.turn_order.specs.Ordered.{interleaved_to, ordered}
 use Rattle.turn_order.proofs.FirstEvents.{to_all}
 use Rattle.turn_order.proofs.LockOrder.{in_history}
@@ -85,19 +85,19 @@ opening_lies shape bounds = record {
 pub none_in : (shape : Shape) (w : Words) → CountsIn shape (λ c e. 0) w
 none_in shape w = record { held = λ c e some. absurd (omega (arith, some)); once = λ c e. omega arith }
 
-module _ (script : Script) (kept : RunRecord) (record_is : IsRecord script kept) (bounds : HasBounds script.shape) (lru : is_lru script.shape.kind ≡ true) (apart : script.shape.common ≡ false) (nests : NestsApart kept.histories)
+module _ (script : Script) (kept : RunRecord) (record_is : IsRecord script kept) (rise : StartsRise kept) (bounds : HasBounds script.shape) (lru : is_lru script.shape.kind ≡ true) (apart : script.shape.common ≡ false) (nests : NestsApart kept.histories)
     (looks : LooksRight script.shape kept.histories) where
   abbrev turns : List Drawn
   turns = ordered kept.histories
 
   counts : CountsAlong (λ c e. 0) (λ c. resting) turns
-  counts = counts_along script.shape lru turns (are_in_order script kept record_is) (calls_rise script kept record_is)
+  counts = counts_along script.shape lru turns (are_in_order script kept record_is) (calls_rise script kept record_is rise)
 
   all_open : AreOpen turns
   all_open =
       are_open turns
-      (lists_together script.shape lru turns (opening_content script.shape) (sorts_first script.shape) (on_locks script kept record_is) (allow_along script kept record_is) (calls_rise script kept record_is) (λ c e. 0) (λ c. resting) counts)
-      (turns_ascend script kept record_is) (calls_rise script kept record_is)
+      (lists_together script.shape lru turns (opening_content script.shape) (sorts_first script.shape) (on_locks script kept record_is) (allow_along script kept record_is) (calls_rise script kept record_is rise) (λ c e. 0) (λ c. resting) counts)
+      (turns_ascend script kept record_is) (calls_rise script kept record_is rise)
       (nests_apart kept.histories nests (turns_ascend script kept record_is) (λ z at. in_history kept.histories (record_once script kept record_is) (record_apart script kept record_is) z (stands_among z turns at)))
 
   looks_right : LooksAlong script.shape (opening_content script.shape) [] (words_of (opening script.shape)) turns
@@ -113,4 +113,4 @@ module _ (script : Script) (kept : RunRecord) (record_is : IsRecord script kept)
       (none_in script.shape (words_of (opening script.shape))) (sorts_first script.shape)))
 
 pub own_races_run : OwnRacesRun
-own_races_run script kept bounds lru apart record_is nests looks = own_run script kept record_is bounds lru apart nests looks
+own_races_run script kept bounds lru apart record_is rise nests looks = own_run script kept record_is rise bounds lru apart nests looks

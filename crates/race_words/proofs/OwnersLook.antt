@@ -178,8 +178,8 @@ pub owners_look_right : OwnersLookRight
 owners_look_right script kept bounds lru record_is told = look_right script kept record_is lru told
 
 pub told_races_run : ToldRacesRun
-told_races_run script kept bounds record_is nests told = by (is_lru script.shape.kind) refl
+told_races_run script kept bounds record_is rise nests told = by (is_lru script.shape.kind) refl
   where
     by : (lru : Bool) → is_lru script.shape.kind ≡ lru → CoreRun script.shape kept.histories
-    by false plain = plain_races_run script kept bounds plain record_is nests
-    by true lru = races_run script kept bounds record_is nests (look_right script kept record_is lru (told lru))
+    by false plain = plain_races_run script kept bounds plain record_is rise nests
+    by true lru = races_run script kept bounds record_is rise nests (look_right script kept record_is lru (told lru))

@@ -17,7 +17,7 @@ use Rattle.place_words.specs.Tickets.{AscendIn, ticket_at}
 use Rattle.place_words.proofs.ElementLemmas.{put_here, put_else}
 use Rattle.map_report.specs.declared.record.PhaseStart.{PhaseStart}
 use Rattle.map_report.specs.declared.record.RunRecord.{RunRecord}
-use Rattle.map_report.specs.Record.{IsRecord, IsInItsPhase, has_cpu}
+use Rattle.map_report.specs.Record.{IsRecord, StartsRise, IsInItsPhase, has_cpu}
 use Rattle.turn_order.specs.Ordered.{ordered}
 use Rattle.turn_order.specs.OrderLaws.{turn_count}
 use Rattle.turn_order.proofs.InOrder.{ascend_filter, ticket_from}
@@ -184,30 +184,6 @@ module _ (script : Script) (kept : RunRecord) (record_is : IsRecord script kept)
       among_all (IsInItsPhase script.cuts kept.phases) x.entry (entries_of kept.histories x.lock) (each_of (IsInItsPhase script.cuts kept.phases) kept.histories record_is.in_phases x.lock)
       (in_history kept.histories (record_once script kept record_is) (record_apart script kept record_is) x there)
 
-  -- Phases don't fall as tickets rise.
-  phases_rise : (x y : Drawn) → IsAmong x turns → IsAmong y turns → x.entry.ticket < y.entry.ticket → phase_at x ≤ phase_at y
-  phases_rise x y one two less = ⊎_elim
-      (λ (back : phase_at y < phase_at x).
-      let its = in_phase x one in
-      let other = in_phase y two in
-      let next : StartsBy kept.phases (suc (phase_at y)) its.start = starts_by 0 _ kept.phases record_is.starts_rise (suc (phase_at y)) (phase_at x) its.start (omega (arith, back)) its.start_is in
-      let before : y.entry.ticket < next.start.ticket = subst (λ (o : Option PhaseStart). MatchOption o ⊤ (λ (p : PhaseStart). y.entry.ticket < p.ticket)) next.at other.to in
-      absurd (omega (arith, before, next.low, its.from, less)))
-      (λ (up : phase_at x ≤ phase_at y). up)
-      (cases_lt (phase_at y) (phase_at x))
-
-  climbs_from : (xs : List Drawn) → ((x : Drawn) → IsAmong x xs → IsAmong x turns) → Ascend xs → Climbs phase_at xs
-  climbs_from [] inside ascend = tt
-  climbs_from (x ∷ xs) inside ascend = (
-    λ y there. phases_rise x y (inside x (inl refl)) (inside y (inr there)) (ascend.0 y (among_stands y xs there)),
-    climbs_from xs (λ y there. inside y (inr there)) ascend.1,
-  )
-    where
-      among_stands : (y : Drawn) (ys : List Drawn) → IsAmong y ys → Stands y ys
-      among_stands y [] at = at
-      among_stands y (z ∷ ys) (inl same) = inl same
-      among_stands y (z ∷ ys) (inr at) = inr (among_stands y ys at)
-
   -- the strand of a CPU in a phase
   record StrandAt (p cpu : ℕ) : Type 0 where
     number : ℕ
@@ -278,41 +254,67 @@ module _ (script : Script) (kept : RunRecord) (record_is : IsRecord script kept)
         and_true true = refl
         and_true false = refl
 
-  -- the calls of a CPU
-  calls_of_cpu : (x y : Drawn) → IsAmong x turns → IsAmong y turns → y.entry.cpu ≡ x.entry.cpu → x.entry.ticket < y.entry.ticket → x.entry.call ≤ y.entry.call
-  calls_of_cpu x y one two cpu less = ⊎_elim
-      (λ (up : phase_at x < phase_at y). ⊎_elim
-      (λ (back : y.entry.call < x.entry.call). absurd (omega (arith, up, fewer script.cuts y.entry.call x.entry.call (omega (arith, back)))))
-      (λ (least : x.entry.call ≤ y.entry.call). least)
-      (cases_lt y.entry.call x.entry.call))
-      (λ (low : phase_at y ≤ phase_at x).
-      let same : phase_at y ≡ phase_at x = omega (arith, low, phases_rise x y one two less) in
-      let its : StrandAt (phase_at x) x.entry.cpu = strand_at (phase_at x) x.entry.cpu (phase_within script.cuts x.entry.call) (cpu_within script kept record_is x one) in
-      strand_climbs its x y one two
-      (of_strand script kept record_is its.strand x its.phase_is its.has)
-      (of_strand script kept record_is its.strand y (its.phase_is ∙ sym same) (subst (λ (c : ℕ). has_cpu c its.strand.cpus ≡ true) (sym cpu) its.has))
-      less)
-      (cases_lt (phase_at x) (phase_at y))
+  -- Where the tickets of the starts of phases never fall
+  module _ (rise : StartsRise kept) where
+    -- phases don't fall as tickets rise
+    pub phases_rise : (x y : Drawn) → IsAmong x turns → IsAmong y turns → x.entry.ticket < y.entry.ticket → phase_at x ≤ phase_at y
+    phases_rise x y one two less = ⊎_elim
+        (λ (back : phase_at y < phase_at x).
+        let its = in_phase x one in
+        let other = in_phase y two in
+        let next : StartsBy kept.phases (suc (phase_at y)) its.start = starts_by 0 _ kept.phases rise (suc (phase_at y)) (phase_at x) its.start (omega (arith, back)) its.start_is in
+        let before : y.entry.ticket < next.start.ticket = subst (λ (o : Option PhaseStart). MatchOption o ⊤ (λ (p : PhaseStart). y.entry.ticket < p.ticket)) next.at other.to in
+        absurd (omega (arith, before, next.low, its.from, less)))
+        (λ (up : phase_at x ≤ phase_at y). up)
+        (cases_lt (phase_at y) (phase_at x))
 
-  rises_from : (xs : List Drawn) → ((x : Drawn) → IsAmong x xs → IsAmong x turns) → Ascend xs → CallsRise xs
-  rises_from [] inside ascend = tt
-  rises_from (x ∷ xs) inside ascend = (
-    λ y at cpu. calls_of_cpu x y (inside x (inl refl)) (inside y (inr (stands_among y xs at))) cpu (ascend.0 y at),
-    rises_from xs (λ y there. inside y (inr there)) ascend.1,
-  )
+    climbs_from : (xs : List Drawn) → ((x : Drawn) → IsAmong x xs → IsAmong x turns) → Ascend xs → Climbs phase_at xs
+    climbs_from [] inside ascend = tt
+    climbs_from (x ∷ xs) inside ascend = (
+      λ y there. phases_rise x y (inside x (inl refl)) (inside y (inr there)) (ascend.0 y (among_stands y xs there)),
+      climbs_from xs (λ y there. inside y (inr there)) ascend.1,
+    )
+      where
+        among_stands : (y : Drawn) (ys : List Drawn) → IsAmong y ys → Stands y ys
+        among_stands y [] at = at
+        among_stands y (z ∷ ys) (inl same) = inl same
+        among_stands y (z ∷ ys) (inr at) = inr (among_stands y ys at)
 
-  pub calls_rise : CallsRise turns
-  calls_rise = rises_from turns (λ x there. there) (ascend_of 0 turns (turn_count kept.histories) ordered_in)
+    -- the calls of a CPU
+    calls_of_cpu : (x y : Drawn) → IsAmong x turns → IsAmong y turns → y.entry.cpu ≡ x.entry.cpu → x.entry.ticket < y.entry.ticket → x.entry.call ≤ y.entry.call
+    calls_of_cpu x y one two cpu less = ⊎_elim
+        (λ (up : phase_at x < phase_at y). ⊎_elim
+        (λ (back : y.entry.call < x.entry.call). absurd (omega (arith, up, fewer script.cuts y.entry.call x.entry.call (omega (arith, back)))))
+        (λ (least : x.entry.call ≤ y.entry.call). least)
+        (cases_lt y.entry.call x.entry.call))
+        (λ (low : phase_at y ≤ phase_at x).
+        let same : phase_at y ≡ phase_at x = omega (arith, low, phases_rise x y one two less) in
+        let its : StrandAt (phase_at x) x.entry.cpu = strand_at (phase_at x) x.entry.cpu (phase_within script.cuts x.entry.call) (cpu_within script kept record_is x one) in
+        strand_climbs its x y one two
+        (of_strand script kept record_is its.strand x its.phase_is its.has)
+        (of_strand script kept record_is its.strand y (its.phase_is ∙ sym same) (subst (λ (c : ℕ). has_cpu c its.strand.cpus ≡ true) (sym cpu) its.has))
+        less)
+        (cases_lt (phase_at x) (phase_at y))
 
-  module _ (plain : is_lru script.shape.kind ≡ false) where
-    -- each CPU's hand
-    pub own_runs : (cpu : ℕ) → cpu < script.shape.cpus → OwnRuns cpu (record_is.spares 0 cpu) turns (record_is.spares (phase_count script.cuts) cpu)
-    own_runs cpu within =
-        let all : 0 + phase_count script.cuts ≡ phase_count script.cuts = omega arith in
-        subst (λ (n : ℕ). OwnRuns cpu (record_is.spares 0 cpu) turns (record_is.spares n cpu)) all
-        (by_classes phase_at cpu (λ p. record_is.spares p cpu) (phase_count script.cuts) 0 turns (climbs_from turns (λ x there. there) (ascend_of 0 turns (turn_count kept.histories) ordered_in))
-        (λ x there. (omega arith, let few = phase_within script.cuts x.entry.call in omega (arith, few)))
-        (λ q low high. strand_own (strand_at q cpu (omega (arith, high)) within) plain))
+    rises_from : (xs : List Drawn) → ((x : Drawn) → IsAmong x xs → IsAmong x turns) → Ascend xs → CallsRise xs
+    rises_from [] inside ascend = tt
+    rises_from (x ∷ xs) inside ascend = (
+      λ y at cpu. calls_of_cpu x y (inside x (inl refl)) (inside y (inr (stands_among y xs at))) cpu (ascend.0 y at),
+      rises_from xs (λ y there. inside y (inr there)) ascend.1,
+    )
+
+    pub calls_rise : CallsRise turns
+    calls_rise = rises_from turns (λ x there. there) (ascend_of 0 turns (turn_count kept.histories) ordered_in)
+
+    module _ (plain : is_lru script.shape.kind ≡ false) where
+      -- each CPU's hand
+      pub own_runs : (cpu : ℕ) → cpu < script.shape.cpus → OwnRuns cpu (record_is.spares 0 cpu) turns (record_is.spares (phase_count script.cuts) cpu)
+      own_runs cpu within =
+          let all : 0 + phase_count script.cuts ≡ phase_count script.cuts = omega arith in
+          subst (λ (n : ℕ). OwnRuns cpu (record_is.spares 0 cpu) turns (record_is.spares n cpu)) all
+          (by_classes phase_at cpu (λ p. record_is.spares p cpu) (phase_count script.cuts) 0 turns (climbs_from turns (λ x there. there) (ascend_of 0 turns (turn_count kept.histories) ordered_in))
+          (λ x there. (omega arith, let few = phase_within script.cuts x.entry.call in omega (arith, few)))
+          (λ q low high. strand_own (strand_at q cpu (omega (arith, high)) within) plain))
 
 -- From each CPU's turns to all
 pub hands_along : (cpus : ℕ) (turns : List Drawn) (hands last : ℕ → Hand) → ((x : Drawn) → IsAmong x turns → x.entry.cpu < cpus) → ((cpu : ℕ) → cpu < cpus → HandRuns (hands cpu) (map turn_of (own cpu turns)) (last cpu)) → HandsAlong hands turns

@@ -10,7 +10,7 @@ use Rattle.place_words.specs.Interleaving.{Drawn, AreEnabled, CoreRun}
 use Rattle.place_words.specs.OpeningState.{opening}
 use Rattle.place_words.specs.Phases.{phase_count}
 use Rattle.map_report.specs.declared.record.RunRecord.{RunRecord}
-use Rattle.map_report.specs.Record.{IsRecord}
+use Rattle.map_report.specs.Record.{IsRecord, StartsRise}
 use Rattle.map_report.specs.Serial as report
 use Rattle.map_report.specs.Turns.{spare_at}
 use Rattle.turn_order.specs.Ordered.{ordered}
@@ -42,12 +42,12 @@ module _ (script : Script) (kept : RunRecord) (record_is : IsRecord script kept)
   pub turns_ascend : Ascend turns
   turns_ascend = ascend_of 0 turns (turn_count kept.histories) (ordered_in script kept record_is)
 
-  module _ (bounds : HasBounds script.shape) (plain : is_lru script.shape.kind ≡ false) (nests : NestsApart kept.histories) where
+  module _ (rise : StartsRise kept) (bounds : HasBounds script.shape) (plain : is_lru script.shape.kind ≡ false) (nests : NestsApart kept.histories) where
     all_open : AreOpen turns
     all_open =
         are_open turns
         (inners_together bounds plain turns (opening_content script.shape) (sorts_first script.shape) (on_locks script kept record_is) (allow_along script kept record_is))
-        turns_ascend (calls_rise script kept record_is)
+        turns_ascend (calls_rise script kept record_is rise)
         (nests_apart kept.histories nests turns_ascend (λ z at. in_history kept.histories (record_once script kept record_is) (record_apart script kept record_is) z (stands_among z turns at)))
 
     abbrev first : ℕ → Hand
@@ -56,7 +56,7 @@ module _ (script : Script) (kept : RunRecord) (record_is : IsRecord script kept)
     hands : HandsAlong first turns
     hands =
         hands_along script.shape.cpus turns first (λ cpu. hand (record_is.spares (phase_count script.cuts) cpu) None) (cpu_within script kept record_is)
-        (λ cpu within. own_runs script kept record_is plain cpu within)
+        (λ cpu within. own_runs script kept record_is rise plain cpu within)
 
     at_first : HandsIn script.shape first (opening script.shape)
     at_first =
@@ -75,4 +75,4 @@ module _ (script : Script) (kept : RunRecord) (record_is : IsRecord script kept)
         (allow_along script kept record_is) hands at_first (length turns)))
 
 pub plain_races_run : PlainRacesRun
-plain_races_run script kept bounds plain record_is nests = plain_run script kept record_is bounds plain nests
+plain_races_run script kept bounds plain record_is rise nests = plain_run script kept record_is rise bounds plain nests

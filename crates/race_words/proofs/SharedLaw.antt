@@ -13,7 +13,7 @@ use Rattle.place_words.specs.Histories.{opening_content}
 use Rattle.place_words.specs.Interleaving.{Drawn, AreEnabled, CoreRun}
 use Rattle.place_words.specs.OpeningState.{opening, opening_home}
 use Rattle.map_report.specs.declared.record.RunRecord.{RunRecord}
-use Rattle.map_report.specs.Record.{IsRecord}
+use Rattle.map_report.specs.Record.{IsRecord, StartsRise}
 use Rattle.turn_order.specs.Ordered.{ordered}
 use Rattle.turn_order.proofs.FirstEvents.{to_all}
 use Rattle.turn_order.proofs.LockOrder.{in_history}
@@ -55,19 +55,19 @@ none_carried shape common = record {
     at_home true is false h c home = absurd cc
     at_home false is r h c home = absurd cc
 
-module _ (script : Script) (kept : RunRecord) (record_is : IsRecord script kept) (bounds : HasBounds script.shape) (lru : is_lru script.shape.kind ≡ true) (common : IsTrue script.shape.common) (nests : NestsApart kept.histories)
+module _ (script : Script) (kept : RunRecord) (record_is : IsRecord script kept) (rise : StartsRise kept) (bounds : HasBounds script.shape) (lru : is_lru script.shape.kind ≡ true) (common : IsTrue script.shape.common) (nests : NestsApart kept.histories)
     (looks : LooksRight script.shape kept.histories) where
   abbrev turns : List Drawn
   turns = ordered kept.histories
 
   counts : CountsAlong (λ c e. 0) (λ c. resting) turns
-  counts = counts_along script.shape lru turns (are_in_order script kept record_is) (calls_rise script kept record_is)
+  counts = counts_along script.shape lru turns (are_in_order script kept record_is) (calls_rise script kept record_is rise)
 
   all_open : AreOpen turns
   all_open =
       are_open turns
-      (lists_together script.shape lru turns (opening_content script.shape) (sorts_first script.shape) (on_locks script kept record_is) (allow_along script kept record_is) (calls_rise script kept record_is) (λ c e. 0) (λ c. resting) counts)
-      (turns_ascend script kept record_is) (calls_rise script kept record_is)
+      (lists_together script.shape lru turns (opening_content script.shape) (sorts_first script.shape) (on_locks script kept record_is) (allow_along script kept record_is) (calls_rise script kept record_is rise) (λ c e. 0) (λ c. resting) counts)
+      (turns_ascend script kept record_is) (calls_rise script kept record_is rise)
       (nests_apart kept.histories nests (turns_ascend script kept record_is) (λ z at. in_history kept.histories (record_once script kept record_is) (record_apart script kept record_is) z (stands_among z turns at)))
 
   looks_right : LooksAlong script.shape (opening_content script.shape) [] (words_of (opening script.shape)) turns
@@ -87,4 +87,4 @@ module _ (script : Script) (kept : RunRecord) (record_is : IsRecord script kept)
       (none_in script.shape (words_of (opening script.shape))) (none_carried script.shape common)))
 
 pub shared_races_run : SharedRacesRun
-shared_races_run script kept bounds lru common record_is nests looks = shared_run script kept record_is bounds lru common nests looks
+shared_races_run script kept bounds lru common record_is rise nests looks = shared_run script kept record_is rise bounds lru common nests looks

@@ -1,11 +1,9 @@
 -- Which phases of a record are right.
-use Rattle.std.specs.Prelude.{◌≡◌, ℕ, suc, ◌<◌, ◌≤◌, List, [], All, MatchOption, ⊤, Some, length, map, slice_get}
+use Rattle.std.specs.Prelude.{◌≡◌, ℕ, List, [], All, Some, length, slice_get}
 use Rattle.map_script.specs.declared.script.Script.{Script}
-use Rattle.map_script.specs.WellFormed.{AreCuts}
 use Rattle.place_words.specs.declared.history.Entry.{Entry}
 use Rattle.place_words.specs.declared.history.LockHistory.{LockHistory}
 use Rattle.place_words.specs.Phases.{phase_of, phase_count}
-use Rattle.place_words.specs.Tickets.{all_entries}
 use Rattle.map_report.specs.declared.record.PhaseStart.{PhaseStart}
 use Rattle.map_report.specs.declared.record.RunRecord.{RunRecord}
 use Rattle.map_report.specs.Record.{IsInItsPhase}
@@ -17,22 +15,14 @@ IsRightEntry cuts starts phase entry = phase_of cuts entry.call ≡ phase → Is
 abbrev pub IsRightHistory : List ℕ → List PhaseStart → ℕ → LockHistory → Type 0
 IsRightHistory cuts starts phase history = All (IsRightEntry cuts starts phase) history.entries
 
--- A phase starts at a ticket that isn't below the start of the phase before it, nor above the number of entries.
-pub record StartsInOrder (starts : List PhaseStart) (entries phase : ℕ) : Type 0 where
-  pub from : (p : ℕ) (before start : PhaseStart) → phase ≡ suc p → slice_get starts p ≡ Some before → slice_get starts phase ≡ Some start → before.ticket ≤ start.ticket
-  pub to : (start : PhaseStart) → slice_get starts phase ≡ Some start → start.ticket ≤ entries
-
--- The first phase starts with nothing drawn and nothing marked, each starts in order, and each entry of a call of a phase is in that
--- phase.
+-- The first phase starts with nothing drawn and nothing marked, and each entry of a call of a phase is in that phase.
 pub record IsRightPhase (script : Script) (kept : RunRecord) (phase : ℕ) : Type 0 where
   pub first : phase ≡ 0 → slice_get kept.phases 0 ≡ Some (record { ticket = 0; marked = [] })
-  pub starts : StartsInOrder kept.phases (length (all_entries kept.histories)) phase
   pub entries : All (IsRightHistory script.cuts kept.phases phase) kept.histories
 
--- What a record says of its phases: one start each, the first with nothing drawn and nothing marked; tickets of the starts that never
--- fall, none above the number of entries; and each entry in the phase of its call.
+-- What a record says of its phases: one start each, the first with nothing drawn and nothing marked, and each entry in the phase of
+-- its call.
 pub record ArePhasesRight (script : Script) (kept : RunRecord) : Type 0 where
   pub one_each : length kept.phases ≡ phase_count script.cuts
   pub first : slice_get kept.phases 0 ≡ Some (record { ticket = 0; marked = [] })
-  pub starts_rise : AreCuts 0 (length (all_entries kept.histories)) (map (λ (start : PhaseStart). start.ticket) kept.phases)
   pub in_phases : All (λ (history : LockHistory). All (IsInItsPhase script.cuts kept.phases) history.entries) kept.histories

@@ -1,5 +1,4 @@
 pub mod Least
-pub mod Starts
 pub mod PhaseLaws
 pub mod CpuLists
 pub mod StrandLaws

@@ -5,13 +5,11 @@ use Rattle.map_script.specs.declared.script.Script.{Script}
 use Rattle.map_script.specs.WellFormed.{HasPhases}
 use Rattle.place_words.specs.declared.history.Entry.{Entry}
 use Rattle.place_words.specs.Phases.{phase_of, phase_count}
-use Rattle.place_words.specs.Tickets.{all_entries}
 use Rattle.map_report.proofs.CutLemmas.{cuts_rise, is_phase}
 use Rattle.map_report.specs.declared.record.PhaseStart.{PhaseStart}
 use Rattle.record_shape.specs.ShapedParts.{StartFits}
 use Rattle.record_shape.specs.WellShaped.{StartsFit, SoManyFit, only_start}
 use Rattle.record_parts.specs.PartLaws.{PhasesAreJudged, RecordsHaveTheirPhases}
-use Rattle.record_parts.proofs.Starts.{cuts_in_order, starts_are_cuts}
 
 -- there is a start for each phase of a script
 pub one_each : (script : Script) (starts : List PhaseStart) → HasPhases script.version (length script.calls) script.cuts → StartsFit script starts → length starts ≡ phase_count script.cuts
@@ -33,7 +31,6 @@ phases_are_judged script kept phases fit =
       λ right. record {
         one_each = one;
         first = (right 0 (omega (arith, one))).first refl;
-        starts_rise = starts_are_cuts kept.phases (length (all_entries kept.histories)) (λ p less. (right p less).starts);
         in_phases = λ k d in_all j e in_one.
             let entry : Entry = get_or (get_or kept.histories k d).entries j e in
             let p : ℕ = phase_of script.cuts entry.call in
@@ -41,10 +38,9 @@ phases_are_judged script kept phases fit =
       },
       λ are p. record {
         first = λ _. are.first;
-        starts = cuts_in_order kept.phases (length (all_entries kept.histories)) 0 are.starts_rise p;
         entries = λ k d in_all j e in_one same. are.in_phases k d in_all j e in_one;
       },
     )
 
 pub records_have_their_phases : RecordsHaveTheirPhases
-records_have_their_phases script kept is = record { one_each = is.one_each; first = is.first; starts_rise = is.starts_rise; in_phases = is.in_phases }
+records_have_their_phases script kept is = record { one_each = is.one_each; first = is.first; in_phases = is.in_phases }

@@ -1,13 +1,12 @@
 //! The first phase of a record that isn't right.
 
-ghost use Rattle.std.specs.Prelude.{◌≡◌, ◌≤◌, ◌<◌, ◌-◌, ◌^◌, ◌⊎◌, ℕ, MatchBool, ◌∷◌, [], length, min};
+ghost use Rattle.std.specs.Prelude.{◌≡◌, ◌≤◌, MatchBool, ◌∷◌, [], length};
 ghost use Rattle.map_script.specs.WellFormed.{HasPhases};
 ghost use Rattle.place_words.specs.Entries.{entry_read};
 ghost use Rattle.place_words.specs.Phases.{phase_of};
-ghost use Rattle.place_words.specs.Tickets.{all_entries};
 ghost use Rattle.record_flaws.specs.First.{IsFirstWrong};
 ghost use Rattle.record_parts.specs.PhaseTables.{IsLeastWrong};
-ghost use Rattle.record_flaws.specs.PhaseFlaws.{IsRightEntry, IsRightHistory, IsRightPhase, StartsInOrder};
+ghost use Rattle.record_flaws.specs.PhaseFlaws.{IsRightEntry, IsRightHistory, IsRightPhase};
 ghost use Rattle.record_parts.specs.PhaseTables.{IsOnTime, IsOpening};
 ghost use Rattle.record_shape.specs.WellShaped.{StartsFit};
 
@@ -15,9 +14,8 @@ use map_report::{PhaseStart, RunRecord};
 use map_script::Script;
 use place_words::{Entries, EntryAt, LockHistory};
 
-/// The first phase that isn't right: nothing was drawn and nothing marked at the start of the first one, no phase starts below the
-/// one before it or above the number of entries, and each entry of a call of a phase has a ticket from that phase's start on, and
-/// before the start of the next one.
+/// The first phase that isn't right: nothing was drawn and nothing marked at the start of the first one, and each entry of a call of
+/// a phase has a ticket from that phase's start on, and before the start of the next one.
 pub fn phase_flaw(script: &Script, kept: &RunRecord) -> Option<u32>
     requires script { HasPhases script.now.version (length script.now.calls) script.now.cuts }
     requires starts { StartsFit script.now kept.now.phases }
@@ -28,49 +26,12 @@ pub fn phase_flaw(script: &Script, kept: &RunRecord) -> Option<u32>
         return Some(0);
     }
     let histories = kept.histories.as_slice();
-    let fallen = first_out_of_order(starts, histories);
-    let least = least_in_all(script.cuts.as_slice(), starts, histories, fallen);
+    let least = least_in_all(script.cuts.as_slice(), starts, histories, starts.len());
     if least < starts.len() {
         Some(least as u32)
     } else {
         None
     }
-}
-
-/// The first phase that doesn't start in order, or the number of phases where each does.
-fn first_out_of_order(starts: &[PhaseStart], histories: &[LockHistory]) -> usize
-    ensures within { result ≤ length starts.now }
-    ensures right { (phase : ℕ) → phase < result → StartsInOrder starts.now (length (all_entries histories.now)) phase }
-    ensures wrong { (result ≡ length starts.now) ⊎ (StartsInOrder starts.now (length (all_entries histories.now)) result → ⊥) }
-{
-    let count = count_entries(histories);
-    for phase in 0..starts.len() {
-        if !starts_in_order(starts, phase, count) {
-            return phase;
-        }
-    }
-    starts.len()
-}
-
-/// How many entries there are in all, or the greatest number of 64 bits where that is less.
-fn count_entries(histories: &[LockHistory]) -> u64
-    ensures { result ≡ min (length (all_entries histories.now)) (2 ^ 64 - 1) }
-{
-    let mut count = 0u64;
-    for history in histories {
-        count = count.saturating_add(history.entries.len() as u64);
-    }
-    count
-}
-
-/// Whether a phase starts in order, where so many entries were counted.
-fn starts_in_order(starts: &[PhaseStart], phase: usize, count: u64) -> bool
-    requires { phase < length starts.now }
-    ensures { (entries : ℕ) → count ≡ min entries (2 ^ 64 - 1)
-        → MatchBool result (StartsInOrder starts.now entries phase) (StartsInOrder starts.now entries phase → ⊥) }
-{
-    let ticket = starts[phase].ticket;
-    ticket <= count && (phase == 0 || starts[phase - 1].ticket <= ticket)
 }
 
 /// Whether nothing was drawn and nothing marked at the start of a phase.

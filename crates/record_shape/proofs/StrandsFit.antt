@@ -4,7 +4,7 @@ use Rattle.std.specs.Prelude.{All, MatchBool, Option, Some, filter, slice_get}
 use Rattle.std.specs.List.{range_with_len}
 use Rattle.std.proofs.lemmas.Bool.{eq-eqb, ne_eqb}
 use Rattle.std.proofs.lemmas.List.{length-append, length-map}
-use Rattle.std.proofs.lemmas.List.Elements.{All-nil, All-cons, All-filter, All-weaker, filter_passes}
+use Rattle.std.proofs.lemmas.List.Elements.{All-filter, All-weaker, filter_passes}
 use Rattle.std.proofs.lemmas.Option.{get_or_from_slice_get, same_Some, slice_get-get_or, slice_get_within}
 use Rattle.map_types.specs.declared.attr.Shape.{Shape}
 use Rattle.map_types.specs.declared.call.Call.{Call}
@@ -25,7 +25,7 @@ use Rattle.place_words.proofs.LockLemmas.{one_lock}
 use Rattle.place_words.proofs.PlainLaws.{chosen_second}
 use Rattle.place_words.proofs.Supplies.{first_of_two}
 use Rattle.map_script.specs.declared.script.Script.{Script}
-use Rattle.map_script.specs.WellFormed.{AreCuts, IsWellFormed}
+use Rattle.map_script.specs.WellFormed.{IsWellFormed}
 use Rattle.map_report.specs.declared.record.PhaseStart.{PhaseStart}
 use Rattle.map_report.specs.declared.record.RunRecord.{RunRecord}
 use Rattle.map_report.specs.Record.{IsConcatenation, IsRecord, has_cpu, locks_of}
@@ -43,11 +43,6 @@ alone [] start one first = absurd cc
 alone (x ∷ []) start one first = ap (λ (s : PhaseStart). s ∷ []) (same_Some x start first)
 alone (x ∷ y ∷ starts) start one first = absurd (omega (arith, one))
 
--- no phase starts above the number of entries
-none_above : (least count : ℕ) (starts : List PhaseStart) → AreCuts least count (map (λ (start : PhaseStart). start.ticket) starts) → All (λ (start : PhaseStart). start.ticket ≤ count) starts
-none_above least count [] are = All-nil (λ (start : PhaseStart). start.ticket ≤ count)
-none_above least count (start ∷ starts) are = All-cons (λ (one : PhaseStart). one.ticket ≤ count) start starts are.1 (none_above start.ticket count starts are.2)
-
 pub starts_fit : (script : Script) (kept : RunRecord) → IsWellFormed script → IsRecord script kept → IsOfTable script kept → StartsFit script kept.phases
 starts_fit script kept formed is_record of_table =
     ⊎_elim
@@ -60,10 +55,8 @@ starts_fit script kept formed is_record of_table =
   where
     start_fits : (k : ℕ) (d : PhaseStart) → k < length kept.phases → StartFits script.shape (get_or kept.phases k d)
     start_fits k d below =
-        let counted = of_table.counted in
-        let ticket = none_above 0 (length (all_entries kept.histories)) kept.phases is_record.starts_rise k d below in
         let marked = is_record.marked k d below in
-        record { ticket = omega (arith, ticket, counted); marked = marks_fit script.shape (get_or kept.phases k d).marked marked.0 marked.1 }
+        record { ticket = of_table.starts k d below; marked = marks_fit script.shape (get_or kept.phases k d).marked marked.0 marked.1 }
 
     all_fit : AllFit (StartFits script.shape) kept.phases
     all_fit = fit_from_all (StartFits script.shape) kept.phases start_fits

@@ -10,6 +10,7 @@ use Rattle.place_words.specs.Named.{entries_of}
 use Rattle.place_words.specs.Real.{IsAlwaysReal}
 use Rattle.place_words.specs.Tickets.{all_entries}
 use Rattle.map_script.specs.declared.script.Script.{Script}
+use Rattle.map_report.specs.declared.record.PhaseStart.{PhaseStart}
 use Rattle.map_report.specs.declared.record.RunRecord.{RunRecord}
 use Rattle.map_types.specs.declared.call.Verb.TheVariants as verbs
 
@@ -38,5 +39,7 @@ pub record IsOfTable (script : Script) (kept : RunRecord) : Type 0 where
   pub unmarked : is_lru script.shape.kind ≡ false → kept.finals.marked ≡ []
   -- there are fewer than 2^64 entries in all; so tickets, places and lengths are numbers of 64 bits
   pub counted : length (all_entries kept.histories) < 2 ^ 64
+  -- nor was more drawn before a phase started
+  pub starts : All (λ (start : PhaseStart). start.ticket < 2 ^ 64) kept.phases
   -- strands stand in the order of their phases
   pub in_order : NeverFall 0 kept.strands

@@ -41,7 +41,7 @@ use Rattle.turn_order.specs.Nests.{NestsApart}
 use Rattle.map_report.specs.declared.record.PhaseStart.{PhaseStart}
 use Rattle.map_report.specs.declared.record.RunRecord.{RunRecord}
 use Rattle.map_report.specs.Phases.{HasExactPhases}
-use Rattle.map_report.specs.Record.{Ascend, EachAnswered, HasElements, HasListedElements, HoldsElements, IsConcatenation, IsInItsPhase, IsRecord, Tells, entries_of, places_in}
+use Rattle.map_report.specs.Record.{Ascend, EachAnswered, HasElements, HasListedElements, HoldsElements, IsConcatenation, IsInItsPhase, IsRecord, StartsRise, Tells, entries_of, places_in}
 use Rattle.map_report.specs.Serial.{opening}
 use Rattle.map_report.specs.Turns.{spare_at}
 use Rattle.map_report.proofs.CutLemmas.{Rise}
@@ -391,7 +391,7 @@ module _ (script : Script) (table : TableView) (created : IsShape script.shape) 
 
   -- The tickets of the starts
 
-  starts_rise : AreCuts 0 (length (all_entries closed.histories)) (map (λ (start : PhaseStart). start.ticket) starts)
+  starts_rise : StartsRise left
   starts_rise =
       subst (λ (l : List PhaseStart). AreCuts 0 (length (all_entries closed.histories)) (map (λ (start : PhaseStart). start.ticket) l)) (sym (starts_are t script p now replies starts pieces come))
       (go 0 p 0 (omega arith) (omega arith))
@@ -451,7 +451,6 @@ module _ (script : Script) (table : TableView) (created : IsShape script.shape) 
     on_cpus = on_cpus shape now closed ends whole (λ k place entry is. (in_phase shape.cpus (λ r cpu. (did r).turns cpu) bound p (moments.rise t script (exact.some script table created is_served p now replies starts pieces come closed ends whole) (exact.served script table created is_served p now replies starts pieces come closed ends whole) p now replies starts pieces come) (λ r cpu low real. moments.windows t script (exact.some script table created is_served p now replies starts pieces come closed ends whole) (exact.served script table created is_served p now replies starts pieces come closed ends whole) p now replies starts pieces come r cpu low real) ends.log (moments.moment_end t script (exact.some script table created is_served p now replies starts pieces come closed ends whole) (exact.served script table created is_served p now replies starts pieces come closed ends whole) p now replies starts pieces come closed ends) script.cuts made k place entry is).1);
     one_each = starts_long;
     first = first_start;
-    starts_rise = starts_rise;
     in_phases = all_in_phases;
     strand_of = place_of_strand t script did;
     in_strand = in_strand;
@@ -495,6 +494,7 @@ module _ (script : Script) (table : TableView) (created : IsShape script.shape) 
   unfolding is_record
   is_race_record nests = record {
     is_record = is_record;
+    starts_rise = starts_rise;
     strand_each = ap (map named_by) left_strands ∙ strands_told_to t script did p;
     exact = exact_phases;
     nests = nests;

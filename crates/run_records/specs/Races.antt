@@ -16,7 +16,7 @@ use Rattle.turn_order.specs.Nests.{NestsApart}
 use Rattle.map_report.specs.declared.record.PhaseStart.{PhaseStart}
 use Rattle.map_report.specs.declared.record.RunRecord.{RunRecord}
 use Rattle.map_report.specs.Phases.{HasExactPhases}
-use Rattle.map_report.specs.Record.{IsRecord}
+use Rattle.map_report.specs.Record.{IsRecord, StartsRise}
 use Rattle.run_records.specs.declared.pieces.Piece.{Piece}
 use Rattle.run_records.specs.ByLogs.{RunStart, HaveRunFrom}
 use Rattle.run_records.specs.Parts.{lone_cpu, pieces_by}
@@ -75,12 +75,14 @@ abbrev pub strands_in : Script → ℕ → List (ℕ × List ℕ)
 strands_in script p = strands_by script.shape.cpus p (lone_cpu (calls_of script p))
 
 -- What is kept of a race is a record of the script. In each phase whose calls are all of one CPU, or that has none, all CPUs are in one
--- strand; in each other each CPU has its own, in the order of the CPUs. And in each phase whose calls are all of one CPU, or that has
+-- strand; in each other each CPU has its own, in the order of the CPUs. The tickets of the starts of phases never fall, and none is above
+-- the number of turns. And in each phase whose calls are all of one CPU, or that has
 -- none, what happens is determined by the state at its start, and no reply is ENOMEM. The turns that stand before one in the
 -- history of its lock have lower tickets than those that were made inside it. On a map that evicts the turns tell the owners of elements
 -- in the order of their tickets.
 pub record IsRaceRecord (script : Script) (kept : RunRecord) : Type 0 where
   pub is_record : IsRecord script kept
+  pub starts_rise : StartsRise kept
   pub strand_each : map (λ (strand : Strand). (strand.phase, strand.cpus)) kept.strands ≡ flat_map (strands_in script) (range_with_len 0 (phase_count script.cuts))
   pub exact : HasExactPhases script kept is_record.spares
   pub nests : NestsApart kept.histories

@@ -24,12 +24,12 @@ use Rattle.place_words.specs.Logs.{new_state, answers}
 use Rattle.place_words.specs.Openings.{first_spares}
 use Rattle.place_words.proofs.EachTurn.{PassAll, VerbPasses}
 use Rattle.map_report.specs.Freelists.{opening_stacks, spares_popped}
-use Rattle.map_report.specs.Record.{IsRecord, EachAnswered}
+use Rattle.map_report.specs.Record.{IsRecord, StartsRise, EachAnswered}
 use Rattle.map_report.specs.Runs.{serial}
 use Rattle.map_report.specs.Serial.{opening, has_spares}
 use Rattle.map_report.proofs.EachAtRest.{run_holds_elements}
 use Rattle.map_report.proofs.LogAnswers.{FitsMap, all_answered}
-use Rattle.map_report.proofs.SerialPhases.{record_of_done}
+use Rattle.map_report.proofs.SerialPhases.{record_of_done, starts_of_done}
 use Rattle.serial_laws.proofs.OpeningTurns.{opening_spares_are, no_opening_spares}
 
 -- Sizes: what is written has the map's, and so has all that lies in the buckets
@@ -98,3 +98,6 @@ any_is_record script like =
     (λ cpu within. ap (λ (spares : List ℕ). slice_get spares cpu) (spares_of shape (bounds_of_shape shape like.shape) shape.kind refl))
     (replies_right shape script.calls like.calls)
     (run_holds_elements shape like.shape 1 script.calls served)
+
+pub any_starts_rise : (script : Script) → IsWellFormed script → StartsRise (serial script)
+any_starts_rise script like = starts_of_done script like.shape like.phases (on_cpus script.shape script.calls like.calls)

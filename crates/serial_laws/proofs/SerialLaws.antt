@@ -23,7 +23,7 @@ use Rattle.map_report.specs.Record.{EachAnswered}
 use Rattle.map_report.specs.Runs.{serial}
 use Rattle.map_report.specs.Serial.{bucket_at}
 use Rattle.serial_laws.specs.Served.{IsScript}
-use Rattle.serial_laws.proofs.AnyRecord.{any_is_record}
+use Rattle.serial_laws.proofs.AnyRecord.{any_is_record, any_starts_rise}
 use Rattle.serial_laws.proofs.LogLaws.{buckets_run}
 use Rattle.serial_laws.proofs.LooksLeave.{looks_leave}
 use Rattle.serial_laws.proofs.NeverFull.{never_full}
@@ -98,6 +98,7 @@ serial_laws script is =
     let whole = any_is_record script like in
     record {
       is_record = whole;
+      starts_rise = any_starts_rise script like;
       one_each = one_for_each script.shape script.calls (serial script).replies whole.replies;
       always_gets = created_always_gets script.shape like.shape script.calls (λ k d below. (like.calls k d below).cpu);
       never_full = never_full script;

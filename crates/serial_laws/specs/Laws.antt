@@ -19,7 +19,7 @@ use Rattle.place_words.specs.SerialOrder.{AlwaysGets, AlwaysRemoves}
 use Rattle.map_report.specs.EachOnce.{in_buckets}
 use Rattle.serial_laws.specs.WalkLaws.{buckets_before, WalkLaws}
 use Rattle.serial_laws.specs.Entries.{Entry, entry_of, answers_from, entries_after, TellsThere}
-use Rattle.map_report.specs.Record.{IsRecord}
+use Rattle.map_report.specs.Record.{IsRecord, StartsRise}
 use Rattle.map_report.specs.ListRuns.{serial_on_lists}
 use Rattle.map_report.specs.Runs.{serial}
 use Rattle.map_report.specs.Serial.{opening, bucket_at, in_bucket_at, lists_after}
@@ -101,6 +101,8 @@ pub record PlainLaws (script : Script) : Type 0 where
 pub record SerialLaws (script : Script) : Type 0 where
   -- what is kept is a record of the script
   pub is_record : IsRecord script (serial script)
+  -- the tickets of its starts never fall, and none is above the number of turns
+  pub starts_rise : StartsRise (serial script)
   -- each call has one reply
   pub one_each : length (serial script).replies ≡ length script.calls
   -- no reply is ENOMEM, and none is E2BIG where the map evicts
