@@ -1,8 +1,6 @@
 -- The record of every serial run of a script is a run of the core.
-use Rattle.std.proofs.Common.{◌<◌, List, [], ◌∷◌}
-use Rattle.std.specs.Prelude.{All}
-use Rattle.std.proofs.lemmas.List.Elements.{All-nil, All-cons, All-head, All-tail}
-use Rattle.map_types.specs.declared.attr.Shape.{Shape}
+use Rattle.std.proofs.Common.{◌<◌}
+use Rattle.std.proofs.lemmas.List.Elements.{All-weaker}
 use Rattle.map_types.specs.declared.call.Call.{Call}
 use Rattle.map_script.specs.declared.script.Script.{Script}
 use Rattle.map_script.specs.WellFormed.{IsWellFormed, IsCallOn}
@@ -13,17 +11,22 @@ use Rattle.map_report.specs.Runs.{serial}
 use Rattle.map_report.proofs.LogNames.{entries_are}
 use Rattle.map_report.proofs.LogTickets.{entries_counted}
 use Rattle.place_words.specs.Interleaving.{CoreRun}
+use Rattle.core_runs.specs.Serial.{IsOnCpus, RunsOnCore}
 use Rattle.core_runs.proofs.CleanRuns.{serial_runs}
 
-all_on : (shape : Shape) (calls : List Call) → All (IsCallOn shape) calls → All (λ (call : Call). call.cpu < shape.cpus) calls
-all_on shape [] are = All-nil (λ (call : Call). call.cpu < shape.cpus)
-all_on shape (call ∷ calls) are =
-    All-cons (λ (one : Call). one.cpu < shape.cpus) call calls (All-head (IsCallOn shape) call calls are).cpu (all_on shape calls (All-tail (IsCallOn shape) call calls are))
+pub runs_on_core : RunsOnCore
+unfolding serial
+runs_on_core script on =
+    let none = no_others script.shape on.shape script.calls on.cpus (done_from script.shape 1 script.calls (new_state script.shape) on.cpus (new_start script.shape on.shape)).0 in
+    serial_runs script.shape on.shape script.calls on.cpus (serial script).histories (λ lock is. entries_are script.shape (run script.shape 1 script.calls (new_state script.shape)) none lock)
+    (entries_counted script.shape script.calls none)
+
+-- a well-formed script's calls are on its map's CPUs
+pub well_formed_on_cpus : (script : Script) → IsWellFormed script → IsOnCpus script
+well_formed_on_cpus script well = record {
+  shape = well.shape;
+  cpus = All-weaker (IsCallOn script.shape) (λ (call : Call). call.cpu < script.shape.cpus) (λ call is. is.cpu) script.calls well.calls;
+}
 
 pub serial_record_runs : (script : Script) → IsWellFormed script → CoreRun script.shape (serial script).histories
-unfolding serial
-serial_record_runs script well =
-    let served = all_on script.shape script.calls well.calls in
-    let none = no_others script.shape well.shape script.calls served (done_from script.shape 1 script.calls (new_state script.shape) served (new_start script.shape well.shape)).0 in
-    serial_runs script.shape well.shape script.calls served (serial script).histories (λ lock is. entries_are script.shape (run script.shape 1 script.calls (new_state script.shape)) none lock)
-    (entries_counted script.shape script.calls none)
+serial_record_runs script well = runs_on_core script (well_formed_on_cpus script well)

@@ -7,7 +7,7 @@ ghost use Rattle.core_runs.specs.RaceRows.{ForgedFails, ForgedTurns, RacesByWord
 ghost use Rattle.core_runs.specs.Serial.{RunsOnCore};
 ghost use Rattle.core_runs.specs.Rows.{ExchangedEvents, FirstRefused, RowEvents};
 
-/// The record of every well-formed script in serial order is a run of the core. The worked races, and a worked run in phases, are
+/// The record of every script in serial order whose calls are on the CPUs of a map that can be created is a run of the core. The worked races, and a worked run in phases, are
 /// the steps that their tickets say, and with two tickets of the first exchanged its third step may not be done. The interleaving
 /// of a race may be done up to any step exactly where holders, owners and homes allow it up to there: a forged race shows that
 /// legal histories alone don't.

@@ -3,6 +3,7 @@ use Rattle.std.proofs.Common.{◌≡◌, ℕ, zero, suc, ◌+◌, ◌-◌, ◌<�
 use Rattle.std.specs.Prelude.{All, MatchOption, filter, slice_get, IsTrue, ◌==◌}
 use Rattle.std.specs.List.{range_with_len}
 use Rattle.std.proofs.lemmas.Bool.{eq-eqb}
+use Rattle.std.proofs.lemmas.List.Elements.{All-weaker}
 use Rattle.std.proofs.lemmas.Option.{none-some, same_Some, slice_get_within}
 use Rattle.map_types.specs.declared.attr.Shape.{Shape}
 use Rattle.map_types.specs.declared.call.Call.{Call}
@@ -266,18 +267,16 @@ pub record OfEntry (script : Script) (kept : RunRecord) (lock : DomainId) (place
   pub lock_is : at.turn.lock ≡ lock
   pub part_is : entry.part ≡ at.turn.part
 
-module _ (script : Script) (kept : RunRecord) (like : IsWellFormed script) (is : IsRecord script kept) where
+-- of a script whose cuts are of its calls, and whose calls are on the map's CPUs
+module _ (script : Script) (kept : RunRecord) (rises : Rise 0 script.cuts (length script.calls)) (served : All (λ (call : Call). call.cpu < script.shape.cpus) script.calls) (is : IsRecord script kept) where
   abbrev cuts : List ℕ
   cuts = script.cuts
 
   abbrev all : ℕ
   all = length script.calls
 
-  rises : Rise 0 cuts all
-  rises = cuts_rise 0 cuts all (omega arith) like.phases.rise
-
-  pub replies_long : length kept.replies ≡ all
-  replies_long = as_many script.shape script.calls kept.replies is.replies
+  pub each_replied : length kept.replies ≡ all
+  each_replied = as_many script.shape script.calls kept.replies is.replies
 
   -- the strand of a CPU in a phase
   record HasStrand (phase cpu : ℕ) : Type 0 where
@@ -333,7 +332,7 @@ module _ (script : Script) (kept : RunRecord) (like : IsWellFormed script) (is :
           → OfCall script kept n call
       by m there made = record {
         reply = made.0;
-        answered = ap (slice_get kept.replies) there ∙ in_all strand.phase kept.replies replies_long m made.0 made.1;
+        answered = ap (slice_get kept.replies) there ∙ in_all strand.phase kept.replies each_replied m made.0 made.1;
         spare = made.2.spare;
         steps = made.2.steps;
         turns = made.2.turns;
@@ -341,10 +340,10 @@ module _ (script : Script) (kept : RunRecord) (like : IsWellFormed script) (is :
         trace = made.2.is.trace;
       }
 
-  pub call_of : (n : ℕ) (call : Call) → slice_get script.calls n ≡ Some call → OfCall script kept n call
-  call_of n call at =
+  pub call_there : (n : ℕ) (call : Call) → slice_get script.calls n ≡ Some call → OfCall script kept n call
+  call_there n call at =
       let p : ℕ = phase_of cuts (suc n) in
-      let real : call.cpu < script.shape.cpus = (all_at (IsCallOn script.shape) script.calls like.calls n call at).cpu in
+      let real : call.cpu < script.shape.cpus = all_at (λ (one : Call). one.cpu < script.shape.cpus) script.calls served n call at in
       let below : n < all = slice_get_within script.calls n call at in
       by p (strand_of_cpu p call.cpu (is_phase cuts all rises (suc n)) real) (is_behind cuts all rises (suc n) (omega arith)) (is_within cuts all rises (suc n) (omega (arith, below)))
     where
@@ -373,7 +372,7 @@ module _ (script : Script) (kept : RunRecord) (like : IsWellFormed script) (is :
           cpu = ap (λ (e : Entry). e.cpu) is_entry;
           of = record {
             reply = found.reply;
-            answered = in_all q kept.replies replies_long found.place found.reply found.answered;
+            answered = in_all q kept.replies each_replied found.place found.reply found.answered;
             spare = found.made.spare;
             steps = found.made.steps;
             turns = found.made.turns;
@@ -409,8 +408,8 @@ module _ (script : Script) (kept : RunRecord) (like : IsWellFormed script) (is :
           step_by s strand strand_there
           (step_there lock strand.steps listed.0 place (ap (λ (l : List ℕ). slice_get l listed.0) (is.steps s strand strand_there lock real) ∙ (listed.1 ∙ ap Some plain)))
 
-      pub entry_of_call : OfEntry script kept lock place entry
-      entry_of_call =
+      pub entry_there : OfEntry script kept lock place entry
+      entry_there =
           let p : ℕ = phase_of cuts entry.call in
           by (strand_of_cpu p entry.cpu (is_phase cuts all rises entry.call) (on_cpu (is_held kept.histories lock place entry at)))
         where
@@ -423,3 +422,20 @@ module _ (script : Script) (kept : RunRecord) (like : IsWellFormed script) (is :
 
           by : HasStrand (phase_of cuts entry.call) entry.cpu → OfEntry script kept lock place entry
           by its = strand_by (is.strand_of (phase_of cuts entry.call) entry.cpu) its.strand its.strand_there (sym its.phase_is) its.has
+
+-- of a well-formed script
+module _ (script : Script) (kept : RunRecord) (like : IsWellFormed script) (is : IsRecord script kept) where
+  well_rises : Rise 0 script.cuts (length script.calls)
+  well_rises = cuts_rise 0 script.cuts (length script.calls) (omega arith) like.phases.rise
+
+  well_served : All (λ (call : Call). call.cpu < script.shape.cpus) script.calls
+  well_served = All-weaker (IsCallOn script.shape) (λ (call : Call). call.cpu < script.shape.cpus) (λ call on. on.cpu) script.calls like.calls
+
+  pub replies_long : length kept.replies ≡ length script.calls
+  replies_long = each_replied script kept well_rises well_served is
+
+  pub call_of : (n : ℕ) (call : Call) → slice_get script.calls n ≡ Some call → OfCall script kept n call
+  call_of n call at = call_there script kept well_rises well_served is n call at
+
+  pub entry_of_call : (lock : DomainId) (place : ℕ) (entry : Entry) → slice_get (entries_of kept.histories lock) place ≡ Some entry → IsTrue (is_lock script.shape lock) → OfEntry script kept lock place entry
+  entry_of_call lock place entry at real = entry_there script kept well_rises well_served is lock place entry at real

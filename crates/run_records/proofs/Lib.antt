@@ -39,3 +39,6 @@ pub mod RaceRecord
 pub mod NestsOfRaces
 pub mod ShapeOrder
 pub mod Shaped
+pub mod OwnTurns
+pub mod RecordKeys
+pub mod LastReads

@@ -96,7 +96,7 @@ between_all a b from to (entry ∷ xs) past ascend =
     ap (λ c. cond (not c && ltb entry.ticket b) (entry ∷ drawn_between a b xs) (drawn_between a b xs)) (le-ltb entry.ticket a (omega (arith, past, ascend.0)))
     ∙ ap (λ (l : List Entry). cond (ltb entry.ticket b) (entry ∷ l) l) rest
 
-before_parted : (a b from to : ℕ) (xs : List Entry) → a ≤ b → AscendIn from (tickets_of xs) to → drawn_before b xs ≡ drawn_before a xs ++ drawn_between a b xs
+pub before_parted : (a b from to : ℕ) (xs : List Entry) → a ≤ b → AscendIn from (tickets_of xs) to → drawn_before b xs ≡ drawn_before a xs ++ drawn_between a b xs
 before_parted a b from to [] less ascend = refl
 before_parted a b from to (entry ∷ xs) less ascend = elim (cases_lt entry.ticket a) [
   | inl below ↦

@@ -35,7 +35,7 @@ use Rattle.run_records.proofs.RaceHistories.{entries_told}
 use Rattle.run_records.proofs.RaceTickets.{counted}
 use Rattle.run_records.proofs.ShapeOrder.{race_in_order, serial_in_order}
 
-few_of : (verb : Verb) → entry_count verb < 2 ^ 32 → HasFew verb
+pub few_of : (verb : Verb) → entry_count verb < 2 ^ 32 → HasFew verb
 few_of (Lookup side key) few = tt
 few_of (Update side flags key value) few = tt
 few_of (Delete key) few = tt

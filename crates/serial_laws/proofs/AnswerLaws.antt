@@ -17,7 +17,7 @@ use Rattle.map_types.specs.declared.refusal.Errno.{Errno}
 use Rattle.map_types.specs.declared.refusal.Errno.TheVariants.{Enoent, E2big, Einval}
 use Rattle.map_types.specs.declared.reply.Reply.{Reply}
 use Rattle.map_types.specs.declared.reply.Reply.TheVariants.{Done, Refused, Batch}
-use Rattle.map_script.specs.WellFormed.{IsCallOn}
+use Rattle.serial_laws.specs.Served.{IsCallFor}
 use Rattle.map_script.specs.declared.script.Script.{Script}
 use Rattle.place_words.specs.declared.finals.Finals.{Finals}
 use Rattle.place_words.specs.Walks.{buckets_from}
@@ -133,13 +133,13 @@ call_there P (first ∷ calls) zero call all is = subst P (same_Some first call 
 call_there P (first ∷ calls) (suc n) call all is = call_there P calls n call all.1 is
 
 -- The reply to the call of an index is E2BIG exactly where it finds no room.
-pub too_big : (script : Script) → HasBounds script.shape → All (IsCallOn script.shape) script.calls → is_lru script.shape.kind ≡ false → (n : ℕ) (call : Call) → slice_get script.calls n ≡ Some call
+pub too_big : (script : Script) → HasBounds script.shape → All (IsCallFor script.shape) script.calls → is_lru script.shape.kind ≡ false → (n : ℕ) (call : Call) → slice_get script.calls n ≡ Some call
     → (slice_get (list_replies script) n ≡ Some (Refused E2big)) ↔ FindsNoRoom script.shape (entries_after script.shape [] (take n script.calls) (list_replies script)) call.verb
 too_big script bounds are plain n call is =
     let shape : Shape = script.shape in
     let lists : Finals = lists_before script n in
     let entries : List Entry = entries_after shape [] (take n script.calls) (list_replies script) in
-    let on_map : IsCallOn shape call = call_there (IsCallOn shape) script.calls n call (recursion_from_All (IsCallOn shape) script.calls are) is in
+    let on_map : IsCallFor shape call = call_there (IsCallFor shape) script.calls n call (recursion_from_All (IsCallFor shape) script.calls are) is in
     let step = agrees_step shape call lists entries bounds plain on_map (sound_run script bounds are plain n) (agrees_run script bounds are plain n) in
     let at = reply_here shape script.calls n call (opening shape) is in
     let big = call_big shape call.cpu call.verb lists entries step.0 in

@@ -17,7 +17,8 @@ use Rattle.map_types.specs.declared.kind.Side.{Side}
 use Rattle.map_types.specs.declared.kind.Side.TheVariants.{Sys}
 use Rattle.map_types.proofs.CreationLemmas.{bounds_of_shape}
 use Rattle.map_script.specs.declared.script.Script.{Script}
-use Rattle.map_script.specs.WellFormed.{HasSizes, IsCallOn, IsWellFormed}
+use Rattle.map_script.specs.WellFormed.{HasSizes, IsWellFormed}
+use Rattle.serial_laws.specs.Served.{IsCallFor, SuitsItsMap}
 use Rattle.percpu_values.proofs.SideLemmas.{HaveSizes, length-value_read, HaveSizes-written, HaveSizes-new}
 use Rattle.place_words.specs.Buckets.{new_stored}
 use Rattle.place_words.specs.Logs.{new_state, answers}
@@ -31,6 +32,7 @@ use Rattle.map_report.proofs.EachAtRest.{run_holds_elements}
 use Rattle.map_report.proofs.LogAnswers.{FitsMap, all_answered}
 use Rattle.map_report.proofs.SerialPhases.{record_of_done, starts_of_done}
 use Rattle.serial_laws.proofs.OpeningTurns.{opening_spares_are, no_opening_spares}
+use Rattle.serial_laws.proofs.ServedLemmas.{well_formed_suits}
 
 -- Sizes: what is written has the map's, and so has all that lies in the buckets
 
@@ -66,13 +68,13 @@ module _ (shape : Shape) where
   sized_fits : (body : Stored) → IsSized shape body → FitsMap shape body
   sized_fits body is = (is.0, λ side cpu within. length-value_read shape side cpu body.values is.1 within)
 
-  on_cpus : (calls : List Call) → All (IsCallOn shape) calls → All (λ (call : Call). call.cpu < shape.cpus) calls
-  on_cpus calls are = All-weaker (IsCallOn shape) (λ (call : Call). call.cpu < shape.cpus) (λ call is. is.cpu) calls are
+  on_cpus : (calls : List Call) → All (IsCallFor shape) calls → All (λ (call : Call). call.cpu < shape.cpus) calls
+  on_cpus calls are = All-weaker (IsCallFor shape) (λ (call : Call). call.cpu < shape.cpus) (λ call is. is.cpu) calls are
 
-  replies_right : (calls : List Call) → All (IsCallOn shape) calls → EachAnswered shape calls (answers shape 1 calls (new_state shape))
+  replies_right : (calls : List Call) → All (IsCallFor shape) calls → EachAnswered shape calls (answers shape 1 calls (new_state shape))
   replies_right calls are =
       all_answered shape (AreSized shape) (IsSized shape) new_sized written_sized sized_fits calls (on_cpus calls are)
-      (All-weaker (IsCallOn shape) (λ (call : Call). VerbPasses (AreSized shape) call.verb) (λ call is. passes call.verb is.sizes) calls are)
+      (All-weaker (IsCallFor shape) (λ (call : Call). VerbPasses (AreSized shape) call.verb) (λ call is. passes call.verb is.sizes) calls are)
 
 -- The first spares are those of the new map.
 
@@ -90,8 +92,8 @@ spares_of shape bounds LruPercpuHash is = evicting_none shape LruPercpuHash is r
 
 -- All in all
 
-pub any_is_record : (script : Script) → IsWellFormed script → IsRecord script (serial script)
-any_is_record script like =
+pub suited_is_record : (script : Script) → SuitsItsMap script → IsRecord script (serial script)
+suited_is_record script like =
     let shape : Shape = script.shape in
     let served = on_cpus shape script.calls like.calls in
     record_of_done script like.shape like.phases served
@@ -99,5 +101,13 @@ any_is_record script like =
     (replies_right shape script.calls like.calls)
     (run_holds_elements shape like.shape 1 script.calls served)
 
+-- so each well-formed script's
+pub any_is_record : (script : Script) → IsWellFormed script → IsRecord script (serial script)
+any_is_record script like = suited_is_record script (well_formed_suits script like)
+
+-- and the tickets of its starts never fall
+pub suited_starts_rise : (script : Script) → SuitsItsMap script → StartsRise (serial script)
+suited_starts_rise script like = starts_of_done script like.shape like.phases (on_cpus script.shape script.calls like.calls)
+
 pub any_starts_rise : (script : Script) → IsWellFormed script → StartsRise (serial script)
-any_starts_rise script like = starts_of_done script like.shape like.phases (on_cpus script.shape script.calls like.calls)
+any_starts_rise script like = suited_starts_rise script (well_formed_suits script like)

@@ -18,7 +18,8 @@ use Rattle.map_types.specs.declared.refusal.Errno.{Errno}
 use Rattle.map_types.specs.declared.refusal.Errno.TheVariants.{Enoent, Einval}
 use Rattle.map_types.specs.declared.reply.Reply.{Reply}
 use Rattle.map_types.specs.declared.reply.Reply.TheVariants.{Done, Refused}
-use Rattle.map_script.specs.WellFormed.{HasSizes, IsCallOn}
+use Rattle.map_script.specs.WellFormed.{HasSizes}
+use Rattle.serial_laws.specs.Served.{IsCallFor}
 use Rattle.place_words.specs.declared.finals.Finals.{Finals}
 use Rattle.place_words.specs.Bodies.{has_key}
 use Rattle.place_words.specs.Walks.{buckets_from, refused_with}
@@ -185,7 +186,7 @@ module _ (shape : Shape) (bounds : HasBounds shape) (cpu : ℕ) (few : cpu < sha
 
 -- A call on the lists answers what it answers on the entries, and they agree after it.
 pub agrees_step : (shape : Shape) (call : Call) (lists : Finals) (entries : List Entry)
-    → HasBounds shape → is_lru shape.kind ≡ false → IsCallOn shape call → IsSound shape lists → Agrees shape lists entries
+    → HasBounds shape → is_lru shape.kind ≡ false → IsCallFor shape call → IsSound shape lists → Agrees shape lists entries
     → ((after_call shape call.cpu call.verb lists).1 ≡ (answered shape call.cpu call.verb (after_call shape call.cpu call.verb lists).1 entries).1)
     × Agrees shape (after_call shape call.cpu call.verb lists).0 (answered shape call.cpu call.verb (after_call shape call.cpu call.verb lists).1 entries).0
 agrees_step shape call lists entries bounds plain is sound agree = call_follows shape bounds call.cpu is.cpu plain call.verb is.sizes lists entries sound agree

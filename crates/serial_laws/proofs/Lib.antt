@@ -38,6 +38,7 @@ pub mod OwnTakes
 pub mod OwnTurnIs
 pub mod PlainKeyIs
 pub mod ProbesRemoved
+pub mod PutAll
 pub mod RaceLists
 pub mod RingTurns
 pub mod SameBatches

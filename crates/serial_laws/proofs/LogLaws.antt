@@ -14,7 +14,7 @@ use Rattle.map_types.specs.declared.kind.MapKind.TheVariants.{Hash, PercpuHash, 
 use Rattle.map_types.specs.declared.reply.Reply.{Reply}
 use Rattle.map_types.specs.Kind.{is_lru}
 use Rattle.map_types.specs.Shape.{HasBounds}
-use Rattle.map_script.specs.WellFormed.{IsCallOn}
+use Rattle.serial_laws.specs.Served.{IsCallFor}
 use Rattle.map_script.specs.declared.script.Script.{Script}
 use Rattle.place_words.specs.declared.finals.Finals.{Finals}
 use Rattle.place_words.specs.declared.history.StrandStep.{StrandStep}
@@ -54,7 +54,7 @@ module _ (shape : Shape) (bounds : HasBounds shape) (built : is_lru shape.kind �
     pub tickets : (run shape number calls state).next_ticket ≡ state.next_ticket + length (turns_from shape lists state.next_ticket number calls)
     pub follows : Follows shape (lists_after shape lists calls) (before ++ turns_from shape lists state.next_ticket number calls) (run shape number calls state)
 
-  pub same_run : (calls : List Call) (lists : Finals) (before : List Happened) (number : ℕ) (state : State) → AllByRecursion (IsCallOn shape) calls → IsSound shape lists → Follows shape lists before state → IsSameRun lists before number calls state
+  pub same_run : (calls : List Call) (lists : Finals) (before : List Happened) (number : ℕ) (state : State) → AllByRecursion (IsCallFor shape) calls → IsSound shape lists → Follows shape lists before state → IsSameRun lists before number calls state
   same_run [] lists before number state are sound follows = record { replies = refl; steps = refl; tickets = omega arith; follows = subst (λ (turns : List Happened). Follows shape lists turns state) (sym (append-nil before)) follows }
   same_run (call ∷ calls) lists before number state are sound follows =
       let same = call_same shape bounds built call.cpu number are.0.cpu lists before state call.verb are.0.sizes follows sound in
@@ -96,16 +96,16 @@ module _ (shape : Shape) (bounds : HasBounds shape) (built : is_lru shape.kind �
       by_kind LruPercpuHash is built = absurd cc
 
 -- of a script
-pub log_run : (script : Script) → (bounds : HasBounds script.shape) → All (IsCallOn script.shape) script.calls → (plain : is_lru script.shape.kind ≡ false) → IsSameRun script.shape bounds plain (opening script.shape) [] 1 script.calls (new_state script.shape)
+pub log_run : (script : Script) → (bounds : HasBounds script.shape) → All (IsCallFor script.shape) script.calls → (plain : is_lru script.shape.kind ≡ false) → IsSameRun script.shape bounds plain (opening script.shape) [] 1 script.calls (new_state script.shape)
 log_run script bounds are plain =
-    same_run script.shape bounds plain script.calls (opening script.shape) [] 1 (new_state script.shape) (recursion_from_All (IsCallOn script.shape) script.calls are) (sound_opening script.shape bounds plain)
+    same_run script.shape bounds plain script.calls (opening script.shape) [] 1 (new_state script.shape) (recursion_from_All (IsCallFor script.shape) script.calls are) (sound_opening script.shape bounds plain)
     (first_follows script.shape bounds plain)
 
 -- Before each call what lies in the buckets by the logs is what lies there on the lists.
-pub buckets_run : (script : Script) → HasBounds script.shape → All (IsCallOn script.shape) script.calls → is_lru script.shape.kind ≡ false
+pub buckets_run : (script : Script) → HasBounds script.shape → All (IsCallFor script.shape) script.calls → is_lru script.shape.kind ≡ false
     → (n bucket : ℕ) → bucket < script.shape.buckets → buckets_before script n bucket ≡ in_bucket_at (lists_before script n) bucket
 buckets_run script bounds are plain n bucket below =
     let shape : Shape = script.shape in
     let calls : List Call = take n script.calls in
-    let same = same_run shape bounds plain calls (opening shape) [] 1 (new_state shape) (recursion_from_All (IsCallOn shape) calls (All-take (IsCallOn shape) n script.calls are)) (sound_opening shape bounds plain) (first_follows shape bounds plain) in
+    let same = same_run shape bounds plain calls (opening shape) [] 1 (new_state shape) (recursion_from_All (IsCallFor shape) calls (All-take (IsCallFor shape) n script.calls are)) (sound_opening shape bounds plain) (first_follows shape bounds plain) in
     ap (λ (c : Content). unwrap_or (bucket_in c) []) (same.follows.contents (Bucket bucket) (lt-ltb bucket shape.buckets below))

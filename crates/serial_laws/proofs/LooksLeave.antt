@@ -206,13 +206,26 @@ module _ (shape : Shape) (cpu number : ℕ) where
   call_looks state (verbs.BatchDelete flags keys) look = absurd look
   call_looks state (verbs.Each flags stop) look = each_looks state flags stop
 
+-- a call that only looks, and such calls one after another
+pub look_leaves : (shape : Shape) (call : Call) (number : ℕ) (state : State) → OnlyLooks call.verb → (bucket : ℕ) → bucket_at shape (after_one shape number call state) bucket ≡ bucket_at shape state bucket
+look_leaves shape call number state look bucket =
+    turns_leave shape call.cpu number (does shape call.cpu number state call.verb).turns (call_looks shape call.cpu number state call.verb look) state bucket
+
+abbrev pub AllLook : List Call → Type 0
+AllLook [] = ⊤
+AllLook (call ∷ calls) = OnlyLooks call.verb × AllLook calls
+
+pub run_leaves : (shape : Shape) (calls : List Call) (number : ℕ) (state : State) → AllLook calls → (bucket : ℕ) → bucket_at shape (run shape number calls state) bucket ≡ bucket_at shape state bucket
+run_leaves shape [] number state look bucket = refl
+run_leaves shape (call ∷ calls) number state look bucket = run_leaves shape calls (suc number) (after_one shape number call state) look.1 bucket ∙ look_leaves shape call number state look.0 bucket
+
 -- the call of an index
 left_there : (shape : Shape) (calls : List Call) (n : ℕ) (call : Call) (number : ℕ) (state : State) → slice_get calls n ≡ Some call → OnlyLooks call.verb → (bucket : ℕ)
     → bucket_at shape (run shape number (take (suc n) calls) state) bucket ≡ bucket_at shape (run shape number (take n calls) state) bucket
 left_there shape [] n call number state is look bucket = absurd (none-some call is)
 left_there shape (first ∷ calls) zero call number state is look bucket =
     let looks : OnlyLooks first.verb = subst (λ (c : Call). OnlyLooks c.verb) (sym (same_Some first call is)) look in
-    turns_leave shape first.cpu number (does shape first.cpu number state first.verb).turns (call_looks shape first.cpu number state first.verb looks) state bucket
+    look_leaves shape first number state looks bucket
 left_there shape (first ∷ calls) (suc n) call number state is look bucket = left_there shape calls n call (suc number) (after_one shape number first state) is look bucket
 
 pub looks_leave : (script : Script) (n : ℕ) (call : Call) → slice_get script.calls n ≡ Some call → OnlyLooks call.verb → (bucket : ℕ) → buckets_before script (n + 1) bucket ≡ buckets_before script n bucket

@@ -1,8 +1,8 @@
 -- At each moment of a run in serial order, of a map of any kind, each key lies in its own bucket, and none twice.
 use Rattle.std.proofs.Common.{◌≡◌, ℕ, suc, ◌+◌, ◌<◌, Bool, true, false, cond, List, [], ◌∷◌, ◌++◌, Some, None, All, refl, ap, sym, ◌∙◌, subst}
 use Rattle.std.specs.Prelude.{unwrap_or}
-use Rattle.std.specs.List.{before_first, after_first, position_or_len}
-use Rattle.std.proofs.lemmas.Bool.{eqb-true}
+use Rattle.std.specs.List.{AllByRecursion, before_first, after_first, position_or_len}
+use Rattle.std.proofs.lemmas.Bool.{eqb-true, eq-eqb}
 use Rattle.std.proofs.lemmas.List.Elements.{All-nil, All-cons, All-append, All-take, All-drop, All-map, All-weaker, recursion_from_All}
 use Rattle.map_types.specs.Creation.{IsShape}
 use Rattle.map_types.specs.Sides.{values_written}
@@ -38,7 +38,7 @@ use Rattle.serial_laws.proofs.WalkedKeys.{HaveOwnKeys}
 -- Own buckets
 
 -- a turn that writes a key is one of its bucket
-abbrev WritesOwn : Shape → DomainId → BucketPart → Type 0
+abbrev pub WritesOwn : Shape → DomainId → BucketPart → Type 0
 WritesOwn shape lock (Lookup side key got) = Unit {0}
 WritesOwn shape lock (Update side flags key value offer put) = lock ≡ Bucket (bucket_of_key shape key)
 WritesOwn shape lock (Delete key removed) = Unit {0}
@@ -48,7 +48,7 @@ WritesOwn shape lock (First key) = Unit {0}
 WritesOwn shape lock (Walk remove room result) = Unit {0}
 WritesOwn shape lock (Evict e probed) = Unit {0}
 
-abbrev IsOwn : Shape → DomainId → Part → Type 0
+abbrev pub IsOwn : Shape → DomainId → Part → Type 0
 IsOwn shape lock (parts.Bucket part) = WritesOwn shape lock part
 IsOwn shape lock (parts.Free part) = Unit {0}
 IsOwn shape lock (parts.Local part) = Unit {0}
@@ -126,7 +126,7 @@ module _ (shape : Shape) where
 
   -- Bodies in a bucket
 
-  abbrev OwnOf : ℕ → Stored → Type 0
+  abbrev pub OwnOf : ℕ → Stored → Type 0
   OwnOf bucket body = bucket_of_key shape body.key ≡ bucket
 
   around : (bucket : ℕ) (test : Stored → Bool) (bodies : List Stored) → All (OwnOf bucket) bodies → All (OwnOf bucket) (before_first test bodies ++ after_first test bodies)
@@ -193,6 +193,23 @@ module _ (shape : Shape) where
   all_keep cpu number [] own state are = are
   all_keep cpu number (turn ∷ turns) own state are = all_keep cpu number turns own.1 (turned shape cpu number turn state) (turned_keeps cpu number turn state own.0 are)
 
+  -- a bucket whose turns write keys of its own has no others
+  pub replay_owned : (bucket : ℕ) (bodies : List Stored) (entries : List Entry) → AllAllowed shape (in_bucket bodies) entries → AllByRecursion (λ (entry : Entry). IsOwn shape (Bucket bucket) entry.part) entries → All (OwnOf bucket) bodies
+      → All (OwnOf bucket) (unwrap_or (bucket_in (replayed shape (in_bucket bodies) entries)) [])
+  unfolding replayed AllAllowed
+  replay_owned bucket bodies [] allowed own all = all
+  replay_owned bucket bodies (entry ∷ entries) allowed own all = by entry.part allowed own.0 (λ now may left. replay_owned bucket now entries may own.1 left)
+    where
+      by : (part : Part) → Allows shape entry.cpu part (in_bucket bodies) × AllAllowed shape (content_after shape entry.cpu part (in_bucket bodies)) entries → IsOwn shape (Bucket bucket) part
+          → ((now : List Stored) → AllAllowed shape (in_bucket now) entries → All (OwnOf bucket) now → All (OwnOf bucket) (unwrap_or (bucket_in (replayed shape (in_bucket now) entries)) []))
+          → All (OwnOf bucket) (unwrap_or (bucket_in (replayed shape (content_after shape entry.cpu part (in_bucket bodies)) entries)) [])
+      by (parts.Bucket part) may own_part later =
+          later (bucket_after shape entry.cpu part bodies) may.1 (part_keeps entry.cpu (Bucket bucket) bucket (eq-eqb bucket bucket refl) part own_part bodies all)
+      by (parts.Free part) may own_part later = absurd may.0
+      by (parts.Local part) may own_part later = absurd may.0
+      by (parts.Global part) may own_part later = absurd may.0
+      by (parts.Own part) may own_part later = absurd may.0
+
   run_keeps : (number : ℕ) (calls : List Call) (state : State) → AreOwned state → AreOwned (run shape number calls state)
   run_keeps number [] state are = are
   run_keeps number (call ∷ calls) state are =
@@ -206,7 +223,7 @@ module _ (shape : Shape) where
   -- Distinct keys
 
   -- what lies under a lock of a bucket has none twice
-  abbrev IsDistinct : Content → Type 0
+  abbrev pub IsDistinct : Content → Type 0
   IsDistinct (in_bucket bodies) = HasDistinctKeys bodies
   IsDistinct (on_freelist stack) = Unit {0}
   IsDistinct (in_locals lists) = Unit {0}
@@ -240,7 +257,7 @@ module _ (shape : Shape) where
   stays_distinct cpu (parts.Own part) (in_global set) allowed distinct = absurd allowed
   stays_distinct cpu (parts.Own part) (in_own set) allowed distinct = tt
 
-  replay_distinct : (here : Content) (entries : List Entry) → AllAllowed shape here entries → IsDistinct here → IsDistinct (replayed shape here entries)
+  pub replay_distinct : (here : Content) (entries : List Entry) → AllAllowed shape here entries → IsDistinct here → IsDistinct (replayed shape here entries)
   unfolding replayed AllAllowed
   replay_distinct here [] allowed distinct = distinct
   replay_distinct here (entry ∷ entries) allowed distinct =

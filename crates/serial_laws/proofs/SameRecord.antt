@@ -32,7 +32,7 @@ use Rattle.map_report.specs.Runs.{serial, start_of, state_before, strand_of_phas
 use Rattle.map_report.specs.Serial.{opening, lists_after, has_spares}
 use Rattle.map_report.specs.Soundness.{IsSound}
 use Rattle.map_report.specs.Turns.{Happened, entries_on, history_on, steps_from, strand_of_turns, turns_from}
-use Rattle.map_script.specs.WellFormed.{IsCallOn}
+use Rattle.serial_laws.specs.Served.{IsCallFor}
 use Rattle.serial_laws.proofs.HistoryTurns.{by_bool}
 use Rattle.serial_laws.proofs.LogLaws.{IsSameRun, first_follows, log_run, same_run}
 use Rattle.serial_laws.proofs.OpeningTurns.{no_local, no_set, not_common}
@@ -155,14 +155,14 @@ same_histories shape turns logs same (k ∷ numbers) =
 
 -- Phase by phase
 
-module _ (script : Script) (bounds : HasBounds script.shape) (are : All (IsCallOn script.shape) script.calls) (plain : is_lru script.shape.kind ≡ false) (p : ℕ) where
+module _ (script : Script) (bounds : HasBounds script.shape) (are : All (IsCallFor script.shape) script.calls) (plain : is_lru script.shape.kind ≡ false) (p : ℕ) where
   abbrev first : ℕ
   first = calls_before script.cuts (length script.calls) p
 
   same_before : IsSameRun script.shape bounds plain (opening script.shape) [] 1 (take first script.calls) (new_state script.shape)
   same_before =
       same_run script.shape bounds plain (take first script.calls) (opening script.shape) [] 1 (new_state script.shape)
-      (recursion_from_All (IsCallOn script.shape) (take first script.calls) (All-take (IsCallOn script.shape) first script.calls are)) (sound_opening script.shape bounds plain) (first_follows script.shape bounds plain)
+      (recursion_from_All (IsCallFor script.shape) (take first script.calls) (All-take (IsCallFor script.shape) first script.calls are)) (sound_opening script.shape bounds plain) (first_follows script.shape bounds plain)
 
   ticket_is : (state_before script p).next_ticket ≡ length (turns_before script p)
   ticket_is = same_before.tickets ∙ (let sum : 0 + length (turns_before script p) ≡ length (turns_before script p) = omega arith in sum)
@@ -170,9 +170,9 @@ module _ (script : Script) (bounds : HasBounds script.shape) (are : All (IsCallO
   same_in : IsSameRun script.shape bounds plain (lists_at script p) (turns_before script p) (suc first) (of_phase script.cuts p script.calls) (state_before script p)
   same_in =
       let mine : List Call = of_phase script.cuts p script.calls in
-      let on_map = All-take (IsCallOn script.shape) (calls_before script.cuts (length script.calls) (suc p) - first) (drop first script.calls) (All-drop (IsCallOn script.shape) first script.calls are) in
+      let on_map = All-take (IsCallFor script.shape) (calls_before script.cuts (length script.calls) (suc p) - first) (drop first script.calls) (All-drop (IsCallFor script.shape) first script.calls are) in
       same_run script.shape bounds plain mine (lists_at script p) (turns_before script p) (suc first) (state_before script p)
-      (recursion_from_All (IsCallOn script.shape) mine on_map) (sound_from_opening script.shape (take first script.calls) bounds plain (All-take (IsCallOn script.shape) first script.calls are)) same_before.follows
+      (recursion_from_All (IsCallFor script.shape) mine on_map) (sound_from_opening script.shape (take first script.calls) bounds plain (All-take (IsCallFor script.shape) first script.calls are)) same_before.follows
 
   strand_is : strand_of_phase script p ≡ strand_of_turns script.shape p (turns_before script p) (turns_in script p)
   strand_is =
@@ -187,7 +187,7 @@ module _ (script : Script) (bounds : HasBounds script.shape) (are : All (IsCallO
 
 -- The record
 
-pub one_record : (script : Script) → HasBounds script.shape → All (IsCallOn script.shape) script.calls → is_lru script.shape.kind ≡ false → serial script ≡ serial_on_lists script
+pub one_record : (script : Script) → HasBounds script.shape → All (IsCallFor script.shape) script.calls → is_lru script.shape.kind ≡ false → serial script ≡ serial_on_lists script
 unfolding serial serial_on_lists
 one_record script bounds are plain =
     let shape : Shape = script.shape in

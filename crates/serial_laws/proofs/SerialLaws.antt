@@ -9,25 +9,24 @@ use Rattle.map_types.specs.declared.call.Call.{Call}
 use Rattle.map_types.specs.declared.refusal.Errno.TheVariants.{E2big}
 use Rattle.map_types.specs.declared.reply.Reply.{Reply}
 use Rattle.map_types.specs.declared.reply.Reply.TheVariants.{Refused}
-use Rattle.map_script.specs.WellFormed.{IsCallOn, IsWellFormed}
 use Rattle.map_script.specs.declared.script.Script.{Script}
 use Rattle.place_words.specs.declared.finals.Finals.{Finals}
 use Rattle.place_words.specs.Bodies.{present}
 use Rattle.place_words.proofs.AnyStart.{created_always_gets}
 use Rattle.place_words.proofs.AnyStart.{always_removes}
-use Rattle.core_runs.proofs.ScriptRuns.{serial_record_runs}
+use Rattle.core_runs.proofs.ScriptRuns.{runs_on_core}
 use Rattle.serial_laws.specs.Entries.{Entry, entry_of, answers_from, entries_after, TellsThere}
 use Rattle.serial_laws.specs.Laws.{lists_before, Sees, FindsNoRoom, PlainLaws, SerialLaws}
 use Rattle.map_report.specs.declared.record.RunRecord.{RunRecord}
 use Rattle.map_report.specs.Record.{EachAnswered}
 use Rattle.map_report.specs.Runs.{serial}
 use Rattle.map_report.specs.Serial.{bucket_at}
-use Rattle.serial_laws.specs.Served.{IsScript}
-use Rattle.serial_laws.proofs.AnyRecord.{any_is_record, any_starts_rise}
+use Rattle.serial_laws.specs.Served.{IsCallFor, IsScript, SuitsItsMap}
+use Rattle.serial_laws.proofs.AnyRecord.{suited_is_record, suited_starts_rise}
 use Rattle.serial_laws.proofs.LogLaws.{buckets_run}
 use Rattle.serial_laws.proofs.LooksLeave.{looks_leave}
 use Rattle.serial_laws.proofs.NeverFull.{never_full}
-use Rattle.serial_laws.proofs.ServedLemmas.{well_formed}
+use Rattle.serial_laws.proofs.ServedLemmas.{well_formed, well_formed_suits}
 use Rattle.serial_laws.proofs.SameRecord.{one_record}
 use Rattle.serial_laws.proofs.SoundRun.{sound_run}
 use Rattle.serial_laws.proofs.StayLaws.{replies_are, finals_are, looks_stay, refusals_stay}
@@ -56,7 +55,7 @@ sees_agreeing shape lists entries agree = record {
 }
 
 -- Before each call of a script its user sees what the lists hold.
-pub seen_run : (script : Script) → HasBounds script.shape → All (IsCallOn script.shape) script.calls → is_lru script.shape.kind ≡ false
+pub seen_run : (script : Script) → HasBounds script.shape → All (IsCallFor script.shape) script.calls → is_lru script.shape.kind ≡ false
     → (n : ℕ) → Sees script.shape (lists_before script n) (entries_after script.shape [] (take n script.calls) (list_replies script))
 seen_run script bounds are plain n =
     sees_agreeing script.shape (lists_before script n) (entries_after script.shape [] (take n script.calls) (list_replies script)) (agrees_run script bounds are plain n)
@@ -64,7 +63,7 @@ seen_run script bounds are plain n =
 -- All laws
 
 -- those of a map that doesn't evict
-plain_laws : (script : Script) → HasBounds script.shape → All (IsCallOn script.shape) script.calls → is_lru script.shape.kind ≡ false → PlainLaws script
+plain_laws : (script : Script) → HasBounds script.shape → All (IsCallFor script.shape) script.calls → is_lru script.shape.kind ≡ false → PlainLaws script
 plain_laws script bounds are plain =
     let same = one_record script bounds are plain in
     let told : (serial script).replies ≡ list_replies script = ap (λ (kept : RunRecord). kept.replies) same ∙ replies_are script in
@@ -91,20 +90,23 @@ one_for_each shape [] (reply ∷ replies) each = absurd each
 one_for_each shape (call ∷ calls) [] each = absurd each
 one_for_each shape (call ∷ calls) (reply ∷ replies) each = ap suc (one_for_each shape calls replies each.1)
 
-pub serial_laws : (script : Script) → IsScript script → SerialLaws script
-serial_laws script is =
-    let like : IsWellFormed script = well_formed script is in
+pub suited_laws : (script : Script) → SuitsItsMap script → SerialLaws script
+suited_laws script like =
     let bounds : HasBounds script.shape = bounds_of_shape script.shape like.shape in
-    let whole = any_is_record script like in
+    let whole = suited_is_record script like in
     record {
       is_record = whole;
-      starts_rise = any_starts_rise script like;
+      starts_rise = suited_starts_rise script like;
       one_each = one_for_each script.shape script.calls (serial script).replies whole.replies;
       always_gets = created_always_gets script.shape like.shape script.calls (λ k d below. (like.calls k d below).cpu);
       never_full = never_full script;
       always_removes = always_removes script.shape script.calls;
       looks_leave = looks_leave script;
-      on_core = serial_record_runs script like;
-      walks = walk_laws script is;
+      on_core = runs_on_core script record { shape = like.shape; cpus = λ k d below. (like.calls k d below).cpu };
+      walks = walk_laws script like;
       plain = λ kind. plain_laws script bounds like.calls kind;
     }
+
+-- so those of each script that is run
+pub serial_laws : (script : Script) → IsScript script → SerialLaws script
+serial_laws script is = suited_laws script (well_formed_suits script (well_formed script is))

@@ -7,7 +7,8 @@ use Rattle.map_types.specs.declared.attr.Shape.{Shape}
 use Rattle.map_types.specs.declared.call.Call.{Call}
 use Rattle.map_types.specs.declared.call.Verb.{Verb}
 use Rattle.map_types.specs.Kind.{is_lru}
-use Rattle.map_script.specs.WellFormed.{HasSizes, IsCallOn}
+use Rattle.map_script.specs.WellFormed.{HasSizes}
+use Rattle.serial_laws.specs.Served.{IsCallFor}
 use Rattle.map_script.specs.declared.script.Script.{Script}
 use Rattle.place_words.specs.declared.finals.Finals.{Finals}
 use Rattle.place_words.proofs.DoneLaws.{IsKeyVerb}
@@ -34,27 +35,27 @@ sound_key shape cpu verb lists bounds plain within is sizes sound =
     record { lengths = whole.lengths; each_once = whole.once; each_bucket = keys.0; no_lru_lists = keys.1 }
 
 -- over any call
-pub sound_step : (shape : Shape) (call : Call) (lists : Finals) → HasBounds shape → is_lru shape.kind ≡ false → IsCallOn shape call → IsSound shape lists → IsSound shape (after_call shape call.cpu call.verb lists).0
+pub sound_step : (shape : Shape) (call : Call) (lists : Finals) → HasBounds shape → is_lru shape.kind ≡ false → IsCallFor shape call → IsSound shape lists → IsSound shape (after_call shape call.cpu call.verb lists).0
 sound_step shape call lists bounds plain is sound =
     call_keeps shape call.cpu (IsSound shape)
     (λ verb one sizes now before. sound_key shape call.cpu verb now bounds plain is.cpu one sizes before)
     (λ bucket below now before. sound_emptied shape call.cpu bucket now is.cpu below before)
     call.verb is.sizes lists sound
 
-sound_calls : (shape : Shape) (calls : List Call) (lists : Finals) → HasBounds shape → is_lru shape.kind ≡ false → AllByRecursion (IsCallOn shape) calls → IsSound shape lists → IsSound shape (lists_after shape lists calls)
+sound_calls : (shape : Shape) (calls : List Call) (lists : Finals) → HasBounds shape → is_lru shape.kind ≡ false → AllByRecursion (IsCallFor shape) calls → IsSound shape lists → IsSound shape (lists_after shape lists calls)
 sound_calls shape [] lists bounds plain are sound = sound
 sound_calls shape (call ∷ calls) lists bounds plain are sound =
     sound_calls shape calls (after_call shape call.cpu call.verb lists).0 bounds plain are.1 (sound_step shape call lists bounds plain are.0 sound)
 
-pub sound_from_opening : (shape : Shape) (calls : List Call) → HasBounds shape → is_lru shape.kind ≡ false → All (IsCallOn shape) calls → IsSound shape (lists_after shape (opening shape) calls)
+pub sound_from_opening : (shape : Shape) (calls : List Call) → HasBounds shape → is_lru shape.kind ≡ false → All (IsCallFor shape) calls → IsSound shape (lists_after shape (opening shape) calls)
 sound_from_opening shape calls bounds plain are =
-    sound_calls shape calls (opening shape) bounds plain (recursion_from_All (IsCallOn shape) calls are) (sound_opening shape bounds plain)
+    sound_calls shape calls (opening shape) bounds plain (recursion_from_All (IsCallFor shape) calls are) (sound_opening shape bounds plain)
 
 -- Before each call of a script the lists are sound.
-pub sound_run : (script : Script) → HasBounds script.shape → All (IsCallOn script.shape) script.calls → is_lru script.shape.kind ≡ false → (n : ℕ) → IsSound script.shape (lists_before script n)
+pub sound_run : (script : Script) → HasBounds script.shape → All (IsCallFor script.shape) script.calls → is_lru script.shape.kind ≡ false → (n : ℕ) → IsSound script.shape (lists_before script n)
 sound_run script bounds are plain n =
-    sound_from_opening script.shape (take n script.calls) bounds plain (All-take (IsCallOn script.shape) n script.calls are)
+    sound_from_opening script.shape (take n script.calls) bounds plain (All-take (IsCallFor script.shape) n script.calls are)
 
 -- So they are at the end.
-pub sound_end : (script : Script) → HasBounds script.shape → All (IsCallOn script.shape) script.calls → is_lru script.shape.kind ≡ false → IsSound script.shape (lists_after script.shape (opening script.shape) script.calls)
+pub sound_end : (script : Script) → HasBounds script.shape → All (IsCallFor script.shape) script.calls → is_lru script.shape.kind ≡ false → IsSound script.shape (lists_after script.shape (opening script.shape) script.calls)
 sound_end script bounds are plain = sound_from_opening script.shape script.calls bounds plain are

@@ -17,7 +17,7 @@ use Rattle.map_types.specs.declared.call.Verb.TheVariants.{Lookup, Update, Delet
 use Rattle.map_types.specs.declared.kind.Side.{Side}
 use Rattle.map_types.specs.declared.kind.Side.TheVariants.{Prog, Sys}
 use Rattle.map_types.specs.declared.reply.Reply.{Reply}
-use Rattle.map_script.specs.WellFormed.{IsCallOn}
+use Rattle.serial_laws.specs.Served.{IsCallFor}
 use Rattle.map_script.specs.declared.script.Script.{Script}
 use Rattle.place_words.specs.declared.finals.Finals.{Finals}
 use Rattle.place_words.specs.Bodies.{has_key, present, first_key, next_key}
@@ -215,7 +215,7 @@ module _ (shape : Shape) (bounds : HasBounds shape) (lists : Finals) (entries : 
   call_tells cpu (BatchDelete flags keys) = tt
   call_tells cpu (Each flags stop) = λ plain. cond_both (flags == 0) _ _ (λ (after : Finals × Reply). TellsHanded shape cpu stop entries after.1) (λ known. handed_tells cpu stop) (λ other. absurd (eqb-false flags 0 other plain))
 
-pub tells_there : (script : Script) → HasBounds script.shape → All (IsCallOn script.shape) script.calls → is_lru script.shape.kind ≡ false → (n : ℕ) (call : Call) (reply : Reply) → slice_get script.calls n ≡ Some call
+pub tells_there : (script : Script) → HasBounds script.shape → All (IsCallFor script.shape) script.calls → is_lru script.shape.kind ≡ false → (n : ℕ) (call : Call) (reply : Reply) → slice_get script.calls n ≡ Some call
     → slice_get (list_replies script) n ≡ Some reply → TellsThere script.shape call.cpu (entries_after script.shape [] (take n script.calls) (list_replies script)) call.verb reply
 tells_there script bounds are plain n call reply is told =
     let shape : Shape = script.shape in

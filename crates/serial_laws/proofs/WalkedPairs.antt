@@ -202,6 +202,10 @@ module _ (shape : Shape) (lie : ℕ → List Stored) where
   pub all_pairs : (at : ℕ → Moment) → ((n : ℕ) → Holds shape lie (at n)) → (counts : List ℕ) (all : Pairs) → read_through shape at None counts ≡ Some all → all ≡ map (pair_read shape 0) (in_order shape lie)
   all_pairs at holds counts all is = chain_pairs counts at holds None all is
 
+  -- so they were where the first of them starts at the first bucket
+  pub all_from_first : (at : ℕ → Moment) → ((n : ℕ) → Holds shape lie (at n)) → (counts : List ℕ) (all : Pairs) → read_through shape at (Some 0) counts ≡ Some all → all ≡ map (pair_read shape 0) (in_order shape lie)
+  all_from_first at holds counts all is = chain_pairs counts at holds (Some 0) all is
+
   -- a batch with room for its first bucket comes to a later one
   some_taken : (limit from many : ℕ) (now : Pairs) → now ≡ pairs_in (range_with_len from many) → length (lie from) ≤ limit → limit - length now < length (lie (from + many)) → 1 ≤ many
   some_taken limit from zero now is room over =

@@ -7,12 +7,10 @@ use Rattle.map_types.specs.Shape.{HasBounds}
 use Rattle.map_types.specs.Stored.{Stored}
 use Rattle.map_types.specs.declared.attr.Shape.{Shape}
 use Rattle.map_types.specs.declared.call.Call.{Call}
-use Rattle.map_script.specs.WellFormed.{IsWellFormed}
 use Rattle.map_script.specs.declared.script.Script.{Script}
-use Rattle.serial_laws.specs.Served.{IsScript}
+use Rattle.serial_laws.specs.Served.{SuitsItsMap}
 use Rattle.serial_laws.specs.WalkLaws.{Moment, Holds, WalksGiveAll, buckets_before, WalkLaws}
 use Rattle.serial_laws.proofs.OwnKeys.{own_keys}
-use Rattle.serial_laws.proofs.ServedLemmas.{well_formed}
 use Rattle.serial_laws.proofs.WalkedKeys.{HaveOwnKeys, gives_keys, each_once_in_order}
 use Rattle.serial_laws.proofs.WalkedPairs.{all_pairs, all_end}
 
@@ -29,9 +27,8 @@ walks_give shape bounds lie keys at holds = record {
 }
 
 -- and so over those of each moment of a run
-pub walk_laws : (script : Script) → IsScript script → WalkLaws script
-walk_laws script is n at holds =
-    let like : IsWellFormed script = well_formed script is in
+pub walk_laws : (script : Script) → SuitsItsMap script → WalkLaws script
+walk_laws script like n at holds =
     let On : Call → Type 0 = λ call. call.cpu < script.shape.cpus in
     walks_give script.shape (bounds_of_shape script.shape like.shape) (buckets_before script n)
     (own_keys script.shape like.shape 1 (take n script.calls) (All-take On n script.calls (λ k d below. (like.calls k d below).cpu))) at holds

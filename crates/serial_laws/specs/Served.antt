@@ -1,5 +1,6 @@
 -- The scripts that are run: each whose calls are on its map, within the limits.
 use Rattle.std.specs.Prelude.{◌≡◌, ◌<◌, ◌^◌, ℕ, length, All, IfSome, ⊤}
+use Rattle.map_types.specs.Creation.{IsShape}
 use Rattle.map_types.specs.Pairs.{HaveSizes}
 use Rattle.map_types.specs.Shape.{HasBounds}
 use Rattle.map_types.specs.ValueLen.{value_len_of}
@@ -9,7 +10,19 @@ use Rattle.map_types.specs.declared.call.Verb.{Verb}
 use Rattle.map_types.specs.declared.call.Verb.TheVariants.{Lookup, Update, Delete, Take, Next, BatchRead, BatchUpdate, BatchDelete, Each}
 use Rattle.map_types.specs.declared.kind.Side.TheVariants.{Sys}
 use Rattle.map_script.specs.declared.script.Script.{Script}
-use Rattle.map_script.specs.WellFormed.{IsKey, IsWellFormed}
+use Rattle.map_script.specs.WellFormed.{HasPhases, HasSizes, IsKey, IsWellFormed}
+
+-- a call for a map: on one of its CPUs, with keys and values of its sizes
+pub record IsCallFor (shape : Shape) (call : Call) : Type 0 where
+  pub cpu : call.cpu < shape.cpus
+  pub sizes : HasSizes shape call.verb
+
+-- Calls for a map that can be created, in phases: each well-formed script has these, and so has that of a copy's puts, however many
+-- calls it has, and whether or not what it puts are bytes.
+pub record SuitsItsMap (script : Script) : Type 0 where
+  pub shape : IsShape script.shape
+  pub calls : All (IsCallFor script.shape) script.calls
+  pub phases : HasPhases script.version (length script.calls) script.cuts
 
 -- how many entries a batch write has
 abbrev pub entry_count : Verb → ℕ

@@ -1,7 +1,7 @@
 use Rattle.core_runs.proofs.RowWorked.{row_computes, exchanged_computes, first_refused}
 use Rattle.core_runs.proofs.ApartWorked.{apart_computes, flushed_computes, phases_compute}
 use Rattle.core_runs.proofs.RaceWorked.{forged_turns, forged_fails, races_by_words, shared_races_by_words, refilled_turns}
-use Rattle.core_runs.proofs.ScriptRuns.{serial_record_runs}
+use Rattle.core_runs.proofs.ScriptRuns.{runs_on_core}
 use Rattle.core_runs.proofs.laws.run_laws.Goals as goal
 
 pub returns-clause-row : goal.returns-clause-row
@@ -14,7 +14,7 @@ pub returns-clause-refused : goal.returns-clause-refused
 returns-clause-refused c = first_refused
 
 pub returns-clause-serial : goal.returns-clause-serial
-returns-clause-serial c = serial_record_runs
+returns-clause-serial c = runs_on_core
 
 pub returns-clause-apart : goal.returns-clause-apart
 returns-clause-apart c = apart_computes
