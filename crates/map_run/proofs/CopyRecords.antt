@@ -1,6 +1,7 @@
 -- What is kept of a copy: the records of both maps.
-use Rattle.std.proofs.Common.{◌≡◌, ℕ, ◌≤◌, false, List, ◌++◌, length, refl, ap, sym, ◌∙◌, subst, arith}
+use Rattle.std.proofs.Common.{◌≡◌, ℕ, ◌≤◌, false, List, ◌++◌, length, All, inl, refl, ap, sym, ◌∙◌, subst, arith}
 use Rattle.std.specs.Prelude.{IfOk, Result, Ok, Err}
+use Rattle.std.specs.List.{flat_map}
 use Rattle.std.proofs.lemmas.List.{length-map}
 use Rattle.map_types.proofs.CreationLemmas.{bounds_of_shape}
 use Rattle.map_types.specs.Creation.{IsShape}
@@ -11,7 +12,7 @@ use Rattle.map_script.specs.declared.script.Script.{Script}
 use Rattle.map_script.specs.declared.script.Target.{Target}
 use Rattle.map_copy.specs.Answers.{AreAnswered}
 use Rattle.map_copy.specs.Copied.{Step}
-use Rattle.map_copy.specs.CopyScripts.{extended, target_script}
+use Rattle.map_copy.specs.CopyScripts.{extended, put_calls, target_script}
 use Rattle.map_copy.specs.Plans.{IsCopied}
 use Rattle.map_copy.proofs.BoundLemmas.{has_few_reads}
 use Rattle.map_copy.proofs.ScriptLemmas.{has_extended}
@@ -19,6 +20,7 @@ use Rattle.map_report.specs.declared.record.PhaseStart.{PhaseStart}
 use Rattle.map_report.specs.declared.record.RunRecord.{RunRecord}
 use Rattle.map_report.specs.Runs.{serial}
 use Rattle.map_report.proofs.CutLemmas.{cuts_rise}
+use Rattle.place_words.specs.Interleaving.{CoreRun}
 use Rattle.place_table.specs.Closing.{ClosedView, IsClosed}
 use Rattle.place_table.specs.Passes.{PassView, TableView}
 use Rattle.run_records.specs.declared.pieces.Piece.{Piece}
@@ -26,11 +28,22 @@ use Rattle.run_records.specs.Copies.{IsCopyOf, record_left}
 use Rattle.run_records.specs.Races.{IsRaceRecord}
 use Rattle.run_records.proofs.RaceEnds.{race_is_record}
 use Rattle.run_records.proofs.RunEnds.{copy_by_phases, end_by_phases}
-use Rattle.serial_laws.specs.Served.{IsScript}
-use Rattle.serial_laws.proofs.ServedLemmas.{IsServed-from_script, well_formed}
-use Rattle.map_run.specs.Copying.{HasCopiedLast, IsCopyRecord}
+use Rattle.serial_laws.specs.Laws.{SerialLaws}
+use Rattle.serial_laws.specs.Served.{IsScript, IsServedCall, SuitsItsMap}
+use Rattle.serial_laws.proofs.SerialLaws.{suited_laws}
+use Rattle.serial_laws.proofs.ServedLemmas.{IsServed-from_script, served_suit, well_formed}
+use Rattle.map_run.specs.Copying.{FitsSource, HasCopiedLast, IsCopyRecord}
+use Rattle.map_run.proofs.CopiedOver.{all_copied, buckets_left}
 use Rattle.map_run.proofs.OneOrder.{race_is_run}
 use Rattle.map_run.proofs.ExtendedPhases.{extended_served}
+
+-- the calls of the target's script are for its map
+target_suits : (attr : CreateAttr) (shape : Shape) (steps : List Step) → IsShape shape → All (IsServedCall shape) (flat_map put_calls steps) → SuitsItsMap (target_script attr shape steps)
+target_suits attr shape steps is served = record {
+  shape = is;
+  calls = served_suit shape (flat_map put_calls steps) served;
+  phases = record { known = inl (refl, refl); few = omega arith; rise = tt };
+}
 
 module _ {script : Script} {t u : TableView} {count : ℕ} {now put_now : PassView} {told : List Reply} {starts : List PhaseStart} {pieces : List Piece} {reads puts : List Reply} {put_starts : List PhaseStart} {put_pieces : List Piece} {closed put_closed : ClosedView}
     (is : IsScript script) (same : t.shape ≡ script.shape) (target_shape : IsShape u.shape) (some : 1 ≤ count) (copied : HasCopiedLast t u script count now put_now told starts pieces reads puts put_starts put_pieces)
@@ -49,8 +62,16 @@ module _ {script : Script} {t u : TableView} {count : ℕ} {now put_now : PassVi
   put_is : (attr : CreateAttr) → record_left u.shape.cpus put_pieces puts put_starts put_closed ≡ serial (target_script attr u.shape steps)
   put_is attr = end_by_phases (target_script attr u.shape steps) u put_now put_closed puts put_starts put_pieces refl target_shape tt (copied.put attr) put_ends put_whole
 
-  pub copy_is_record : (kept put : RunRecord) → kept ≡ record_left script.shape.cpus pieces told starts closed → put ≡ record_left u.shape.cpus put_pieces puts put_starts put_closed → (target : Target) → u.shape ≡ target.shape → count ≡ target.count → IsCopyRecord script target kept reads put
-  copy_is_record kept put kept_is put_is_left target shape_is count_is =
+  suits_target : (attr : CreateAttr) (shape : Shape) → u.shape ≡ shape → SuitsItsMap (target_script attr shape steps)
+  suits_target attr shape is = subst (λ (s : Shape). SuitsItsMap (target_script attr s steps)) is (target_suits attr u.shape steps target_shape copied.put_served)
+
+  -- what is kept of the target
+  target_kept : (target : Target) → u.shape ≡ target.shape → record_left u.shape.cpus put_pieces puts put_starts put_closed ≡ serial (target_script target.attr target.shape steps)
+  target_kept target shape_is = put_is target.attr ∙ ap (λ (s : Shape). serial (target_script target.attr s steps)) shape_is
+
+  pub copy_is_record : (kept put : RunRecord) → kept ≡ record_left script.shape.cpus pieces told starts closed → put ≡ record_left u.shape.cpus put_pieces puts put_starts put_closed → (target : Target) → u.shape ≡ target.shape → count ≡ target.count → FitsSource script.shape target.shape → IsCopyRecord script target kept reads put
+  copy_is_record kept put kept_is put_is_left target shape_is count_is fits =
+      let laws : SerialLaws (target_script target.attr target.shape steps) = suited_laws (target_script target.attr target.shape steps) (suits_target target.attr target.shape shape_is) in
       let ended = subst (λ (s : Shape). IsCopied count s.elements steps × AreAnswered s steps) same (copied.copied, copied.answered) in
       subst (λ (z : RunRecord × RunRecord). IsCopyRecord script target z.0 reads z.1) (λ i. (sym kept_is i, sym put_is_left i)) record {
         steps = steps;
@@ -63,7 +84,13 @@ module _ {script : Script} {t u : TableView} {count : ℕ} {now put_now : PassVi
             omega (arith, few, long);
         source = source_both.0;
         one_run = race_is_run (extended script steps) (record_left script.shape.cpus pieces (told ++ reads) starts closed) (bounds_of_shape script.shape (well_formed script is).shape) source_both.0;
-        target_is = put_is target.attr ∙ ap (λ (s : Shape). serial (target_script target.attr s steps)) shape_is;
+        target_is = target_kept target shape_is;
+        target_run = subst (λ (r : RunRecord). CoreRun target.shape r.histories) (sym (target_kept target shape_is)) laws.on_core;
+        target_laws = laws;
+        source_buckets = λ bucket below. buckets_left script is steps (record_left script.shape.cpus pieces told starts closed) reads source_both.0 bucket below;
+        same_contents = λ alone went kind.
+            all_copied script is steps (record_left script.shape.cpus pieces told starts closed) reads source_both.0 copied.reads_are alone count target.attr target.shape (record_left u.shape.cpus put_pieces puts put_starts put_closed)
+            fits ended.0 went kind laws (target_kept target shape_is) copied.puts_are;
       }
 
   pub copies_are_kept : (kept put : RunRecord) (left put_left : ClosedView) → kept ≡ record_left script.shape.cpus pieces told starts closed → put ≡ record_left u.shape.cpus put_pieces puts put_starts put_closed → left ≡ closed → put_left ≡ put_closed → IsCopyOf kept left × IsCopyOf put put_left

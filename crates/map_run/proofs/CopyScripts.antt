@@ -66,6 +66,9 @@ fits_source script target accepted is =
     record {
       keys = other.key_size ∙ (is.key_size ∙ sym own.key_size);
       values = λ i. cond (percpu i) (cpus i * round8 (sizes i)) (sizes i);
+      percpu = percpu;
+      size = sizes;
+      cpus = cpus;
     }
 
 -- The script

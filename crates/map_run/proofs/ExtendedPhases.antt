@@ -13,7 +13,7 @@ use Rattle.map_script.specs.WellFormed.{AreCuts}
 use Rattle.map_copy.specs.Copied.{Step}
 use Rattle.map_copy.specs.CopyScripts.{extended, put_calls, read_call, target_script}
 use Rattle.map_report.specs.declared.record.PhaseStart.{PhaseStart}
-use Rattle.place_words.specs.Phases.{calls_before, phase_count}
+use Rattle.place_words.specs.Phases.{calls_before, of_phase, phase_count}
 use Rattle.place_table.specs.Passes.{PassView, TableView, IsFirstPass}
 use Rattle.run_records.specs.declared.pieces.Piece.{Piece}
 use Rattle.run_records.specs.Phased.{Started}
@@ -44,6 +44,36 @@ take_last {A} xs ys m within =
     take_all (length (xs ++ ys) - m) (drop m (xs ++ ys)) (omega (arith, all_left))
     ∙ drop-append-le m xs ys within
     ∙ ap (λ (l : List A). l ++ ys) (sym (take_all (length xs - m) (drop m xs) (omega (arith, left))))
+
+-- what stands behind all that is of the calls is in the last phase
+pub last_of : {A : Type 0} (cuts : List ℕ) (xs ys : List A) → AreCuts 0 (length xs) cuts → of_phase cuts (length cuts) (xs ++ ys) ≡ of_phase cuts (length cuts) xs ++ ys
+last_of cuts xs ys rise =
+    let p : ℕ = length cuts in
+    let first : ℕ = calls_before cuts (length xs) p in
+    let same : calls_before cuts (length (xs ++ ys)) p ≡ first = sym (before_same cuts (length xs) (length (xs ++ ys)) p (omega arith)) in
+    (λ i. take (past_cuts cuts (length (xs ++ ys)) i - same i) (drop (same i) (xs ++ ys)))
+    ∙ take_last xs ys first (phase_within cuts (length xs) p rise)
+    ∙ ap (λ (k : ℕ). take (k - first) (drop first xs) ++ ys) (sym (past_cuts cuts (length xs)))
+
+no_length : {A : Type 0} (xs : List A) → length xs ≡ 0 → xs ≡ []
+no_length [] none = refl
+no_length (x ∷ xs) none = absurd (omega (arith, none))
+
+-- Where the last phase has none of some, it has none of as many others.
+pub none_of : {A B : Type 0} (cuts : List ℕ) (xs : List A) (ys : List B) → length ys ≡ length xs → of_phase cuts (length cuts) xs ≡ [] → of_phase cuts (length cuts) ys ≡ []
+none_of {A} {B} cuts xs ys as_many none =
+    let p : ℕ = length cuts in
+    let first : ℕ = calls_before cuts (length xs) p in
+    let other : ℕ = calls_before cuts (length ys) p in
+    let same : other ≡ first = ap (λ (n : ℕ). calls_before cuts n p) as_many in
+    let long = length-drop first xs in
+    let other_long = length-drop other ys in
+    let past = past_cuts cuts (length xs) in
+    let other_past = past_cuts cuts (length ys) in
+    let whole : take (calls_before cuts (length xs) (suc p) - first) (drop first xs) ≡ drop first xs = take_all (calls_before cuts (length xs) (suc p) - first) (drop first xs) (omega (arith, long, past)) in
+    let gone : length (drop first xs) ≡ 0 = ap length (sym whole ∙ none) in
+    take_all (calls_before cuts (length ys) (suc p) - other) (drop other ys) (omega (arith, other_long, other_past))
+    ∙ no_length (drop other ys) (omega (arith, other_long, same, as_many, long, gone))
 
 module _ (script : Script) (steps : List Step) (rise : AreCuts 0 (length script.calls) script.cuts) where
   abbrev cuts : List ℕ

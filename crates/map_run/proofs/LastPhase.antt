@@ -72,6 +72,7 @@ module _ (script : Script) (phase first next : ℕ) (calls : List Call) (phase_i
             (subst (λ (z : ℕ × ℕ × List Call). RanCalls t z.0 z.1 (z.2 ++ map read_call copied.steps) begun now (told ++ reads) more) (λ i. (phase_is i, own_first i, own_calls i)) copied.ran)
             all_are starts_are pieces_are;
         puts_are = puts_are ∙ copied.put.replies_are;
+        put_served = copied.put.served;
         put_whole = copied.put.whole;
         put = λ attr. target_run u copied.steps attr put_first put_begun put_now put_start puts_told put_starts put_pieces put_count target_shape is_first put_begins
             (subst (λ (l : List Reply). HavePut u copied.steps put_begun put_now l) (sym puts_are) copied.put) counted put_starts_are put_pieces_are;

@@ -19,3 +19,6 @@ mod CopyScripts
 mod CopyRecords
 mod LastPhase
 mod BesideWorked
+mod CopyReads
+mod SameContents
+mod CopiedOver

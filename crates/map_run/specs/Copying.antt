@@ -1,9 +1,12 @@
 -- The run of a copy. While the calls of the last phase of a script go on, CPU 0, which has none of them, reads the map page after page,
 -- and puts the pairs of each page into another map, the target.
-use Rattle.std.specs.Prelude.{◌≡◌, ℕ, suc, ◌+◌, ◌≤◌, true, false, Bool, MatchBool, MatchOption, All, List, [], ◌∷◌, ◌++◌, length, map, Option, None, Some}
+use Rattle.std.specs.Prelude.{◌≡◌, ℕ, suc, ◌+◌, ◌<◌, ◌≤◌, true, false, Bool, MatchBool, MatchOption, All, IsTrue, IsFalse, List, [], ◌∷◌, ◌++◌, length, map, Option, None, Some, option_map}
 use Rattle.std.specs.List.{flat_map}
 use Rattle.map_types.specs.Creation.{IsShape}
+use Rattle.map_types.specs.Kind.{is_lru, is_percpu}
 use Rattle.map_types.specs.Pairs.{HaveSizes}
+use Rattle.map_types.specs.Sides.{value_read}
+use Rattle.map_types.specs.Stored.{Stored}
 use Rattle.map_types.specs.ValueLen.{value_len_of}
 use Rattle.map_types.specs.declared.attr.CreateAttr.{CreateAttr}
 use Rattle.map_types.specs.declared.attr.Shape.{Shape}
@@ -15,14 +18,18 @@ use Rattle.map_script.specs.declared.script.Script.{Script}
 use Rattle.map_script.specs.declared.script.Target.{Target}
 use Rattle.map_script.specs.WellFormed.{AreOfOthers}
 use Rattle.map_copy.specs.Answers.{AreAnswered, IsAnswer}
-use Rattle.map_copy.specs.Copied.{Read, Step, IsPage, IsPutOf, pairs_in}
+use Rattle.map_copy.specs.Copied.{Read, Step, IsPage, IsPutOf, has_stopped, pairs_in}
 use Rattle.map_copy.specs.CopyScripts.{extended, put_calls, put_replies, read_call, read_replies, target_script}
 use Rattle.map_copy.specs.Plans.{PlanView, IsCopied, IsCopying, plan_after, step_of}
 use Rattle.map_report.specs.declared.record.PhaseStart.{PhaseStart}
 use Rattle.map_report.specs.declared.record.RunRecord.{RunRecord}
 use Rattle.map_report.specs.Record.{MayAnswer}
 use Rattle.map_report.specs.Runs.{serial}
+use Rattle.map_report.specs.Serial.{bucket_at, in_bucket_at}
+use Rattle.map_report.specs.Soundness.{IsBucket}
+use Rattle.place_words.specs.declared.finals.Finals.{Finals}
 use Rattle.place_words.specs.AtRest.{IsStart}
+use Rattle.place_words.specs.Bodies.{present}
 use Rattle.place_words.specs.Interleaving.{CoreRun}
 use Rattle.place_words.specs.Phases.{phase_count}
 use Rattle.place_table.specs.Calls.{Called}
@@ -34,14 +41,18 @@ use Rattle.run_records.specs.Races.{HaveComeTo, IsRaceRecord, RanCalls, calls_of
 use Rattle.run_records.specs.SerialPhases.{HaveRunPhases}
 use Rattle.run_records.specs.Work.{HasWorked}
 use Rattle.run_records.specs.declared.pieces.Piece.{Piece}
+use Rattle.serial_laws.specs.Laws.{SerialLaws}
 use Rattle.serial_laws.specs.Served.{IsServedCall}
 use Rattle.map_run.specs.declared.worker.Worker.{Worker}
 use Rattle.map_run.specs.Workers.{HaveDone}
 
--- A target has keys and values of the source's sizes.
+-- A target has keys and values of the source's sizes, and where the source has a value for each CPU, so it has, for as many.
 pub record FitsSource (source target : Shape) : Type 0 where
   pub keys : target.key_size ≡ source.key_size
   pub values : value_len_of target Sys ≡ value_len_of source Sys
+  pub percpu : is_percpu target.kind ≡ is_percpu source.kind
+  pub size : target.value_size ≡ source.value_size
+  pub cpus : target.cpus ≡ source.cpus
 
 -- A copy asks for a pass of the source that has CPU 0, and for one of the target that has all CPUs, both in no call.
 pub record CanCopy (source target : TableView) (p q : PassView) : Type 0 where
@@ -162,6 +173,7 @@ pub record HasCopiedLast (source target : TableView) (script : Script) (count : 
   pub reads_are : reads ≡ read_replies steps
   pub come : HaveComeTo source (extended script steps) (phase_count script.cuts) now (told ++ reads) starts pieces
   pub puts_are : puts ≡ put_replies steps
+  pub put_served : All (IsServedCall target.shape) (flat_map put_calls steps)
   pub put_whole : IsWhole target put_now
   pub put : (attr : CreateAttr) → HaveRunPhases target (target_script attr target.shape steps) 1 put_now puts put_starts put_pieces
 
@@ -174,6 +186,19 @@ LeavesOneFree script = AreOfOthers (calls_of script (length script.cuts))
 -- the record with these replies behind its own
 abbrev pub with_replies : RunRecord → List Reply → RunRecord
 with_replies kept more = record kept { replies = kept.replies ++ more }
+
+-- no put of a copy stopped
+abbrev pub NoneStopped : List Step → Type 0
+NoneStopped steps = All (λ (step : Step). ¬ (IsTrue (has_stopped step.put))) steps
+
+-- The value of a key in what a map holds, as the system call reads it, which is the same on each CPU (here CPU 0): none where the key
+-- isn't there.
+abbrev pub system_value : Shape → Finals → List ℕ → Option (List ℕ)
+system_value shape held key = option_map (λ (stored : Stored). value_read shape Sys 0 stored.values) (present key (bucket_at shape held key))
+
+-- Two maps hold the same keys, each with the same value.
+abbrev pub HoldTheSame : Shape → Finals → Shape → Finals → Type 0
+HoldTheSame source kept target put = (key : List ℕ) → system_value target put key ≡ system_value source kept key
 
 -- What is kept of a copy into a target: the source's record, the replies to the reads, and the target's record.
 pub record IsCopyRecord (script : Script) (target : Target) (kept : RunRecord) (reads : List Reply) (put : RunRecord) : Type 0 where
@@ -192,3 +217,12 @@ pub record IsCopyRecord (script : Script) (target : Target) (kept : RunRecord) (
   pub one_run : CoreRun script.shape kept.histories
   -- The target's record is that of its script, whose calls are the puts, in serial order.
   pub target_is : put ≡ serial (target_script target.attr target.shape steps)
+  -- The target's turns, in the order of their tickets, are a run of the core too, and the laws of runs in serial order hold of its script.
+  pub target_run : CoreRun target.shape put.histories
+  pub target_laws : SerialLaws (target_script target.attr target.shape steps)
+  -- At its end the source has in each bucket keys of that bucket, none of them twice, each with values of the map's sizes.
+  pub source_buckets : (bucket : ℕ) → bucket < script.shape.buckets → IsBucket script.shape bucket (in_bucket_at kept.finals bucket)
+  -- Where no call ran beside the copy, no put stopped and the target doesn't evict, the target holds at its end exactly the source's keys,
+  -- each with the value that the system call reads there.
+  pub same_contents : calls_of script (length script.cuts) ≡ [] → NoneStopped steps → IsFalse (is_lru target.shape.kind)
+      → HoldTheSame script.shape kept.finals target.shape put.finals

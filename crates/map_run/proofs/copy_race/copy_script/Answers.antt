@@ -17,7 +17,7 @@ returns-clause-record g c =
     IfOk-weaker c.keep_both.result _ (λ kept. IsCopyRecord c.args.script.now c.args.into.now kept.0 kept.2.reads kept.2.target)
     (λ kept is. subst (λ (reads : List Reply). IsCopyRecord c.args.script.now c.args.into.now kept.0 reads kept.2.target) (sym (is.1))
     (copy_is_record c.requires.script c.in_ok-source.ensures.0 (subst IsShape (sym c.in_ok-target.ensures.0) c.requires.target) c.requires.some c.in_ok-copied.ensures c.in_ok-closed.ensures (is.0.2) c.in_ok-put_closed.ensures (is.2.2) kept.0 kept.2.target (is.0.0)
-    (subst (λ (s : Shape). kept.2.target ≡ record_left s.cpus c.in_ok-copied.copied.put.pieces.items c.in_ok-copied.copied.put.replies.items c.in_ok-copied.copied.put.starts.items c.in_ok-put_closed.put_closed) (sym c.in_ok-target.ensures.0) (is.2.0)) c.args.into.now c.in_ok-target.ensures.0 refl))
+    (subst (λ (s : Shape). kept.2.target ≡ record_left s.cpus c.in_ok-copied.copied.put.pieces.items c.in_ok-copied.copied.put.replies.items c.in_ok-copied.copied.put.starts.items c.in_ok-put_closed.put_closed) (sym c.in_ok-target.ensures.0) (is.2.0)) c.args.into.now c.in_ok-target.ensures.0 refl c.requires.fits))
     (all_kept _ _ _ c.keep_both.result c.keep_both.ensures.source c.keep_both.ensures.reads c.keep_both.ensures.target)
 
 pub returns-clause-closed : goal.returns-clause-closed
