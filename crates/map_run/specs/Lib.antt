@@ -1,3 +1,4 @@
+pub mod Causes
 pub mod CopiesKept
 pub mod Copying
 pub mod Finish

@@ -1,5 +1,7 @@
-//! What the contracts of runs refuse, and what they tell of judged reports and of copies, as clauses of functions that do nothing.
+//! What the contracts of runs refuse, and what they tell of statuses, of judged reports and of copies, as clauses of functions that
+//! do nothing.
 
+ghost use Rattle.map_run.specs.Causes.{FaultHasCause, StoppedByFault};
 ghost use Rattle.map_run.specs.CopiesKept.{KeepsCopies};
 ghost use Rattle.map_run.specs.Judged.{EndsWithYes, RacesPass};
 ghost use Rattle.map_run.specs.Refusals.{KeptFromATable, LoneCallsByOne, LonePhaseIsWhole};
@@ -31,4 +33,11 @@ pub fn race_law()
 /// What is kept of a copy is there exactly in mode `copy`, where a record is kept.
 pub fn copy_law()
     ensures { KeepsCopies }
+{}
+
+/// The program ends with status 1 only where the words are good and the input was read to its end and has a fault, with 3 only where
+/// a read failed, and with 4 only where a write or a flush did. So no program may always end so.
+pub fn cause_law()
+    ensures fault { FaultHasCause }
+    ensures stopped { StoppedByFault }
 {}

@@ -5,4 +5,5 @@ pub mod Reports
 pub mod Statuses
 pub mod Endings
 pub mod Beginnings
+pub mod Causes
 pub mod Comparisons
