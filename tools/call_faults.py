@@ -31,8 +31,8 @@ def is_hex(token):
 class Calls:
     """Reads call lines of a map, in one version, and tells the bytes that the replies may have."""
 
-    def __init__(self, made, version):
-        self.made, self.version = made, version
+    def __init__(self, made, version, is_trial=False):
+        self.made, self.version, self.is_trial = made, version, is_trial
         key, value = f"[0-9a-fA-F]{{{2 * made.key}}}", f"[0-9a-fA-F]{{{2 * made.value}}}"
         # (the form in which most lines are written)
         self.common = re.compile(f"([0-9]{{1,2}}) (?:(lookup|delete) {key}|update any {key} {value})\r?".encode())
@@ -90,7 +90,7 @@ class Calls:
     def reads(self, tokens):
         """Whether this would be a call line."""
         try:
-            Calls(self.made, self.version).read(tokens)
+            Calls(self.made, self.version, True).read(tokens)
         except Fault:
             return False
         return True
@@ -99,7 +99,7 @@ class Calls:
 
     def cpu(self):
         tokens, most = self.tokens, self.made.cpus - 1
-        token, which = tokens[0], f"0 to {self.made.cpus - 1}" if self.made.cpus > 1 else "0, the only one"
+        token, which = tokens[0], ("0, the only one", "0 or 1", f"0 to {most}")[min(most, 2)]
         expected = f"a CPU: {which}"
         if is_number(token):
             if int(token) > most:
@@ -216,7 +216,7 @@ class Calls:
             self.end(5)
         except Fault as fault:
             # (a key of decimal digits is taken for the flag that is missing, and then the fault comes behind it)
-            if token not in FLAGS and self.reads(with_flag):
+            if token not in FLAGS and not self.is_trial and self.reads(with_flag):
                 fault.told = f"the flag is missing: `{shown(token)}` stands in its place" + f", and {fault.told}" * (fault.at > 2)
                 fault.expected, fault.mended = f"{expected}, before the key", with_flag
             raise
@@ -232,7 +232,7 @@ class Calls:
                     self.side_bytes(at + 1)
                 at += 1 + (verb == "batch_update")
         except Fault as fault:
-            if len(tokens) > 2 and self.reads(with_flags):
+            if len(tokens) > 2 and not self.is_trial and self.reads(with_flags):
                 fault.told = f"FLAGS is missing: `{shown(tokens[2])}` stands in its place"
                 fault.expected, fault.mended = f"{NUMBER}, before the first key", with_flags
             raise
@@ -320,9 +320,9 @@ class Reading:
                 yield Line(at, raw)
 
     def judge(self, line, read):
+        self.read, self.line_number = read, line.number if line else self.end
         if line and line.bad is not None:
             raise byte_fault(line)
-        self.read, self.line_number = read, line.number if line else self.end
         read(line.tokens if line else None)
 
     def placed(self, fault, line):
