@@ -1,5 +1,6 @@
 """How each program here in Python is called: it tells its version, and where nobody reads any more what it writes it ends as
 other programs do."""
+import argparse
 import os
 import pathlib
 import signal
@@ -15,6 +16,18 @@ def version(name):
     except (OSError, ValueError):
         return f"{name} (bpfmap, which has no file VERSION)"
     return f"{name} (bpfmap) {number}, {date}"
+
+
+class Parser(argparse.ArgumentParser):
+    """A parser that tells the version too, and whose help isn't lost in silence where it can't be written."""
+
+    def __init__(self, *words, name, **form):
+        super().__init__(*words, **form)
+        self.add_argument("--version", action="version", version=version(name), help="tell the version")
+
+    def _print_message(self, message, file=None):
+        if message:
+            (file or sys.stderr).write(message)
 
 
 def tell_if_asked(name, words, usage):

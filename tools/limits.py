@@ -1,5 +1,4 @@
 """What the program takes: its kinds, flags and limits, and a script as lines that are counted while they come."""
-import argparse
 import pathlib
 import sys
 import typing
@@ -24,12 +23,11 @@ class Stop(Exception):
         self.status = status
 
 
-class Words(argparse.ArgumentParser):
+class Words(called.Parser):
     """Words that are wrong get one line."""
 
     def __init__(self, name, **form):
-        super().__init__(name, **form)
-        self.add_argument("--version", action="version", version=called.version(f"tools/{name}"))
+        super().__init__(name, name=f"tools/{name}", **form)
 
     def error(self, message):
         self.exit(WORDS, f"{self.prog}: {message}\n")
