@@ -1,5 +1,4 @@
 # Completion for bash, which ./install puts where bash finds it: the modes and options of bpfmap, and the options of its tools.
-# shellcheck shell=bash
 
 _bpfmap() {
   local word=${COMP_WORDS[COMP_CWORD]} one modes='serial race gen compare check copy' options='--history --dump --json' given=' '

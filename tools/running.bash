@@ -1,6 +1,5 @@
 # Read by ./bpfmap and ./bpfmap-try, which set top to the folder of the repository, program to the program that they run, and
 # may set called to their own name: how the program is run, and what is told behind its answer.
-# shellcheck shell=bash disable=SC2154
 : "${called:=bpfmap}"
 # (quoted where a shell wants it, so that what has it can be pasted)
 printf -v pasted %q "$top"
@@ -100,10 +99,10 @@ tell_words() {
 input= from=0
 keep_input() {
   local copy line
-  if [ -f /dev/fd/0 ]; then
+  if [ -f /dev/fd/0 ] && [ -r /proc/self/fdinfo/0 ]; then
     input=0
     exec {line}</proc/self/fdinfo/0 && read -r -u "$line" _ from && exec {line}<&-
-  elif [ -p /dev/fd/0 ] && is_command "$@" && command -v python3 >/dev/null; then
+  elif [ -p /dev/fd/0 ] && is_command "$@" && command -v python3 >/dev/null && command -v tee >/dev/null; then
     copy=$(mktemp "${TMPDIR:-/tmp}/bpfmap.XXXXXX" 2>/dev/null) && exec {input}<>"$copy" && rm -f "$copy"
   fi
 }
