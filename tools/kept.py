@@ -129,6 +129,7 @@ class Kept:
             is_summary = len(lines) > SUMMARY and lines[1].startswith("calls ") and lines[SUMMARY].startswith("present ")
             self.refuse_if(not is_summary, "line 2: it is no report of a generator's script")
             self.count = int(lines[1].split(" ")[1])
+            self.summary = {name: int(count) for name, count in (line.split(" ") for line in lines[2:SUMMARY - 1])}
             return 1 + SUMMARY
         self.count = len(self.script.calls)
         self.replies = [line.partition(" ")[2] for line in lines[1 : 1 + self.count]]
@@ -251,6 +252,14 @@ class Kept:
         if verb == "update":
             return f"{cpu} update any {words[6]} {words[7]}"
         return f"{cpu} {verb} {words[5 if verb == 'lookup' else 4]}"
+
+    def errors(self):
+        """How many calls answered each error. (A batch that stopped has that error.)"""
+        if self.replies is None:
+            return collections.Counter(dict(list(self.summary.items())[1:]))
+        named = collections.Counter(reply.partition(" ")[0] for reply in self.replies)
+        del named["ok"]
+        return named
 
     def answer(self, call):
         return None if self.replies is None else self.replies[call - 1]

@@ -1,7 +1,10 @@
 """What the program takes: its kinds, flags and limits, and a script as lines that are counted while they come."""
-import argparse
+import pathlib
 import sys
 import typing
+
+sys.path.append(str(pathlib.Path(__file__).resolve().parents[1] / "judge"))
+import called
 
 KINDS = ("hash", "percpu_hash", "lru_hash", "lru_percpu_hash")
 NO_PREALLOC, NO_COMMON_LRU, ZERO_SEED = 1, 2, 64
@@ -20,8 +23,11 @@ class Stop(Exception):
         self.status = status
 
 
-class Words(argparse.ArgumentParser):
+class Words(called.Parser):
     """Words that are wrong get one line."""
+
+    def __init__(self, name, **form):
+        super().__init__(name, name=f"tools/{name}", **form)
 
     def error(self, message):
         self.exit(WORDS, f"{self.prog}: {message}\n")
@@ -108,6 +114,8 @@ def write(text):
     try:
         sys.stdout.write(text)
         sys.stdout.flush()
+    except BrokenPipeError:
+        raise
     except OSError as why:
         # (else Python tries it once more at its end)
         sys.stdout = None
@@ -116,10 +124,11 @@ def write(text):
 
 def run(name, main):
     """Runs a tool: its statuses and its one line, with its name, on standard error."""
-    try:
-        main()
-    except Stop as stop:
-        print(f"{name}: {stop}", file=sys.stderr)
-        sys.exit(stop.status)
-    except KeyboardInterrupt:
-        sys.exit(130)
+    def stopped():
+        try:
+            return main()
+        except Stop as stop:
+            print(f"{name}: {stop}", file=sys.stderr)
+            return stop.status
+
+    called.run(name, stopped, WRITE)

@@ -6,6 +6,10 @@ from plain import lock_name
 from reports import Evict, Refill, Steal, Turn, Update
 
 
+# In this order they are counted: those that are told of first.
+ERRORS = ("e2big", "enomem", "eexist", "enoent", "einval", "enospc")
+
+
 class Hands:
     """Which call of a CPU had an element in its hand: the one that comes to a bucket with it next, or frees it."""
 
@@ -111,5 +115,7 @@ def tell_errors(kept):
         else:
             hands = hands or Hands(kept)
             yield from tell_lists(kept, last_update(entries, lambda entry: False), hands)
-    counts = collections.Counter(name for _, name in found)
-    yield f"{counts['e2big']} E2BIG and {counts['enomem']} ENOMEM, of {kept.count} calls"
+    counts = kept.errors()
+    told = ", ".join(f"{counts[name]} {name.upper()}" for name in ERRORS if counts[name])
+    total = sum(counts.values())
+    yield f"of {kept.count} calls {total} answered an error: {told}" if total else f"of {kept.count} calls none answered an error"
