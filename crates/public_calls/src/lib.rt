@@ -29,3 +29,5 @@ mod searches;
 mod shrinks;
 #[cfg(test)]
 mod steps;
+#[cfg(test)]
+mod tables;
