@@ -1,4 +1,4 @@
--- Linearizable: what holds of a record on one plain map, in the order of the tickets of all turns.
+-- Linearizable: the calls of a record are answered by one plain map, in the order of the tickets of all turns.
 use Rattle.std.specs.Prelude.{◌≡◌, ℕ, suc, ◌≤◌, List, ◌∷◌, ◌++◌, Some, slice_get}
 use Rattle.std.specs.List.{Contains}
 use Rattle.map_types.specs.declared.call.Call.{Call}
@@ -17,12 +17,11 @@ use Rattle.one_map.specs.Laws.{IsOneMap}
 pub record IsAnsweredByOneMap (script : Script) (kept : RunRecord) : Type 0 where
   -- before each turn the buckets hold what the one map holds, and what the turn tells is so on it
   pub one_map : IsOneMap script.shape (ordered kept.histories)
-  -- each call is answered by it at points of its own (`CallIsAnswered`)
+  -- each call is answered by that map at a point of its own, a walk at several (`CallIsAnswered`)
   pub calls : (n : ℕ) (call : Call) (reply : Reply) → slice_get script.calls n ≡ Some call → slice_get kept.replies n ≡ Some reply
       → CallIsAnswered script.shape (ordered kept.histories) (suc n) call.cpu call.verb reply
 
--- So they are, and the order of the turns, and with it that of the points, is one of the calls: phases don't fall along it, and each
--- CPU's calls stand in theirs.
+-- They are so answered, and in the order of the turns, and so of the points, phases don't fall, and each CPU's calls stand in theirs.
 pub record IsLinearizable (script : Script) (kept : RunRecord) : Type 0 where
   pub answered : IsAnsweredByOneMap script kept
   pub in_phases : (before : List Drawn) (first : Drawn) (later : List Drawn) → ordered kept.histories ≡ before ++ first ∷ later
@@ -30,6 +29,6 @@ pub record IsLinearizable (script : Script) (kept : RunRecord) : Type 0 where
   pub in_order : (before : List Drawn) (first : Drawn) (later : List Drawn) → ordered kept.histories ≡ before ++ first ∷ later
       → (then : Drawn) → Contains later then → then.entry.cpu ≡ first.entry.cpu → first.entry.call ≤ then.entry.call
 
--- Each record's calls are answered by one plain map.
+-- Of each record they are.
 abbrev pub RecordsAreOneMap : Type 0
 RecordsAreOneMap = (script : Script) (kept : RunRecord) → SuitsItsMap script → IsRecord script kept → IsAnsweredByOneMap script kept
