@@ -153,7 +153,7 @@ module _ (script : Script) (kept : RunRecord) (suits : SuitsItsMap script) (reco
       let drawn = map_among (at_of kept.histories) one.0 (drawn_by kept.histories mine) (subst (λ (l : List TurnAt). IsAmong one.0 l) are one.1) in
       let of : IsOf cpu number drawn.0 = named_of kept.histories (turn_count kept.histories) (record_ascend script kept record_is) cpu number mine its names drawn.0 drawn.1 in
       let stands = is_of_strand kept.histories (record_once script kept record_is) (record_apart script kept record_is) script.cuts strand.phase strand.cpus strand.steps
-        (λ lock is. record_is.steps n strand at lock (record_lock script kept record_is lock is)) drawn.0 (inside drawn.0 drawn.1) in
+      (λ lock is. record_is.steps n strand at lock (record_lock script kept record_is lock is)) drawn.0 (inside drawn.0 drawn.1) in
       record {
         drawn = drawn.0;
         stands = stands.0;
