@@ -35,6 +35,7 @@ use Rattle.serial_laws.proofs.ServedLemmas.{IsServed-from_script, served_suit, w
 use Rattle.map_run.specs.Copying.{FitsSource, HasCopiedLast, IsCopyRecord}
 use Rattle.map_run.proofs.CopiedOver.{all_copied, buckets_left}
 use Rattle.map_run.proofs.OneOrder.{race_is_run}
+use Rattle.map_run.proofs.Linearizable.{source_is_linearizable}
 use Rattle.map_run.proofs.ExtendedPhases.{extended_served}
 
 -- the calls of the target's script are for its map
@@ -84,6 +85,7 @@ module _ {script : Script} {t u : TableView} {count : ℕ} {now put_now : PassVi
             omega (arith, few, long);
         source = source_both.0;
         one_run = race_is_run (extended script steps) (record_left script.shape.cpus pieces (told ++ reads) starts closed) (bounds_of_shape script.shape (well_formed script is).shape) source_both.0;
+        linear = source_is_linearizable script steps (record_left script.shape.cpus pieces (told ++ reads) starts closed) (well_formed script is) source_both.0;
         target_is = target_kept target shape_is;
         target_run = subst (λ (r : RunRecord). CoreRun target.shape r.histories) (sym (target_kept target shape_is)) laws.on_core;
         target_laws = laws;

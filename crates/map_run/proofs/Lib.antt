@@ -5,6 +5,7 @@ mod HandedCalls
 pub mod Joining
 pub mod Judged
 pub mod OneOrder
+pub mod Linearizable
 pub mod Working
 pub mod Workers
 pub mod Refused

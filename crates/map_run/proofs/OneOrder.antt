@@ -18,7 +18,7 @@ race_is_run script kept bounds race = told_races_run script kept bounds race.is_
 
 pub races_pass : ReportsAreJudged → RacesPass
 races_pass reports script kept copy said well ran is =
-    let judged = reports script kept said well ran.3 is in
+    let judged = reports script kept said well ran.4 is in
     by judged.0 judged.1 judged.2
   where
     by : (verdict : Verdict) → said ≡ Judged verdict → IsVerdict script kept verdict → said ≡ Judged Yes

@@ -35,6 +35,7 @@ use Rattle.place_words.specs.Phases.{phase_count}
 use Rattle.place_table.specs.Calls.{Called}
 use Rattle.place_table.specs.Passes.{PassView, TableView, IsInNoCall, IsPassOf, begun}
 use Rattle.place_table.specs.Views.{is_among}
+use Rattle.one_map.specs.Linear.{IsLinearizable}
 use Rattle.run_records.specs.ByLogs.{HaveRunFrom, RunStart}
 use Rattle.run_records.specs.Phased.{HasGone, IsWhole}
 use Rattle.run_records.specs.Races.{HaveComeTo, IsRaceRecord, RanCalls, calls_of}
@@ -212,9 +213,10 @@ pub record IsCopyRecord (script : Script) (target : Target) (kept : RunRecord) (
   pub answered : AreAnswered script.shape steps
   pub few : length reads ≤ script.shape.buckets + 17
   -- With the reads' replies at its end, the source's record is that of a race of the script with the reads as calls of its last phase,
-  -- and its turns, in the order of their tickets, are a run of the core.
+  -- its turns, in the order of their tickets, are a run of the core, and it is linearizable.
   pub source : IsRaceRecord (extended script steps) (with_replies kept reads)
   pub one_run : CoreRun script.shape kept.histories
+  pub linear : IsLinearizable (extended script steps) (with_replies kept reads)
   -- The target's record is that of its script, whose calls are the puts, in serial order.
   pub target_is : put ≡ serial (target_script target.attr target.shape steps)
   -- The target's turns, in the order of their tickets, are a run of the core too, and the laws of runs in serial order hold of its script.

@@ -4,6 +4,7 @@
 ghost use Rattle.map_run.specs.Causes.{FaultHasCause, StoppedByFault};
 ghost use Rattle.map_run.specs.CopiesKept.{KeepsCopies};
 ghost use Rattle.map_run.specs.Judged.{EndsWithYes, RacesPass};
+ghost use Rattle.map_run.specs.Linear.{RecordsAreLinearizable, SerialIsLinearizable, YesIsOfOneMap};
 ghost use Rattle.map_run.specs.Refusals.{KeptFromATable, LoneCallsByOne, LonePhaseIsWhole};
 
 use record_check::verdict_laws;
@@ -29,6 +30,14 @@ pub fn race_law()
 {
     verdict_laws();
 }
+
+/// Each record whose phases start one behind another is linearizable, and so is that of a run in serial order. A report of which mode
+/// `check` says `yes` tells a record whose calls are answered by one plain map; of a script of one phase it is linearizable.
+pub fn linear_law()
+    ensures records { RecordsAreLinearizable }
+    ensures serial { SerialIsLinearizable }
+    ensures judged { YesIsOfOneMap }
+{}
 
 /// What is kept of a copy is there exactly in mode `copy`, where a record is kept.
 pub fn copy_law()

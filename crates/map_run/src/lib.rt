@@ -18,7 +18,7 @@ mod worker;
 pub use copy_race::run_copy;
 pub use finish::bpfmap;
 pub use hold_gate::{Hold, HoldGate};
-pub use laws::{cause_law, check_law, copy_law, race_law, refused_laws};
+pub use laws::{cause_law, check_law, copy_law, linear_law, race_law, refused_laws};
 pub use map_report::{Finals, Kept, LocalFinal, Options, RunRecord, SetFinal};
 pub use race::run_race;
 pub use record::{CopyRecord, Finish};

@@ -9,6 +9,7 @@ ghost use Rattle.place_table.specs.Passes.{IsFirstPass, PassView};
 ghost use Rattle.place_words.specs.Interleaving.{CoreRun};
 ghost use Rattle.place_words.specs.Phases.{phase_count};
 ghost use Rattle.map_run.specs.declared.worker.Worker.{Worker};
+ghost use Rattle.one_map.specs.Linear.{IsLinearizable};
 ghost use Rattle.record_shape.specs.WellShaped.{WellShaped};
 ghost use Rattle.run_records.specs.Copies.{IsCopyOf};
 ghost use Rattle.run_records.specs.Parts.{lone_cpu, pieces_by};
@@ -43,7 +44,8 @@ use std::thread::Threads;
 /// what the map holds at the end; beside it stands what the closed table left. It fails only where memory does.
 ///
 /// The turns of the record, in the order of their tickets, are a run of the core. So whatever is said of its report with `--history`
-/// and `--dump`, it is that it is right (`race_law`).
+/// and `--dump`, it is that it is right (`race_law`). And they are linearizable: the calls are answered as by one plain map, each at a
+/// turn of its own.
 ///
 /// The record is well shaped. So `read_record` reads its report with `--history` and `--dump` back as the record, where that
 /// has at most 2^32 - 3 line feeds and memory is found.
@@ -59,6 +61,7 @@ pub fn run_race<R: Threads + Wait + Sync, G: Gate>(
     requires script { IsScript script.now }
     ensures record { IfOk result (λ kept. IsRaceRecord script.now kept.0) }
     ensures order { IfOk result (λ kept. CoreRun script.now.shape kept.0.histories) }
+    ensures linear { IfOk result (λ kept. IsLinearizable script.now kept.0) }
     ensures shaped { IfOk result (λ kept. WellShaped script.now kept.0) }
     ensures closed { IfOk result (λ kept. IsCopyOf kept.0 kept.1) }
 {

@@ -2,6 +2,8 @@ use Rattle.std.proofs.lemmas.Result.{IfOk-weaker}
 use Rattle.run_records.specs.Races.{IsRaceRecord}
 use Rattle.serial_laws.proofs.ServedLemmas.{well_formed, IsServed-from_script}
 use Rattle.place_words.specs.Interleaving.{CoreRun}
+use Rattle.one_map.specs.Linear.{IsLinearizable}
+use Rattle.map_run.proofs.Linearizable.{race_is_linearizable}
 use Rattle.map_run.proofs.OneOrder.{race_is_run}
 use Rattle.map_run.proofs.race.run_race.Goals as goal
 
@@ -9,6 +11,11 @@ pub returns-clause-order : goal.returns-clause-order
 returns-clause-order g c =
     IfOk-weaker c.race_script.result (λ kept. IsRaceRecord c.args.script.now kept.0) (λ kept. CoreRun c.args.script.now.shape kept.0.histories)
     (λ kept race. race_is_run c.args.script.now kept.0 (IsServed-from_script c.args.script.now c.requires.script).bounds race) c.race_script.ensures.record
+
+pub returns-clause-linear : goal.returns-clause-linear
+returns-clause-linear g c =
+    IfOk-weaker c.race_script.result (λ kept. IsRaceRecord c.args.script.now kept.0) (λ kept. IsLinearizable c.args.script.now kept.0)
+    (λ kept race. race_is_linearizable c.args.script.now kept.0 (well_formed c.args.script.now c.requires.script) race) c.race_script.ensures.record
 
 pub race_script-requires-clause-shape : goal.race_script-requires-clause-shape
 race_script-requires-clause-shape g c κs within = (well_formed c.args.script.now c.requires.script).shape

@@ -1,0 +1,14 @@
+pub mod Finds
+pub mod BucketStep
+pub mod Told
+pub mod TurnStep
+pub mod Along
+pub mod Homes
+pub mod Gone
+pub mod InRecord
+pub mod KeyPoints
+pub mod WalkPoints
+pub mod NextPoints
+pub mod CallPlaces
+pub mod RecordCalls
+pub mod AnyRecord

@@ -1,0 +1,5 @@
+pub mod PlainMap
+pub mod Turns
+pub mod Laws
+pub mod Answers
+pub mod Linear

@@ -1,0 +1,34 @@
+-- Linearizable: the calls of a record are answered by one plain map, in the order of the tickets of all turns.
+use Rattle.std.specs.Prelude.{◌≡◌, ℕ, suc, ◌≤◌, List, ◌∷◌, ◌++◌, Some, slice_get}
+use Rattle.std.specs.List.{Contains}
+use Rattle.map_types.specs.declared.call.Call.{Call}
+use Rattle.map_types.specs.declared.reply.Reply.{Reply}
+use Rattle.map_script.specs.declared.script.Script.{Script}
+use Rattle.map_report.specs.declared.record.RunRecord.{RunRecord}
+use Rattle.map_report.specs.Record.{IsRecord}
+use Rattle.place_words.specs.Interleaving.{Drawn}
+use Rattle.place_words.specs.Phases.{phase_of}
+use Rattle.serial_laws.specs.Served.{SuitsItsMap}
+use Rattle.turn_order.specs.Ordered.{ordered}
+use Rattle.one_map.specs.Answers.{CallIsAnswered}
+use Rattle.one_map.specs.Laws.{IsOneMap}
+
+-- The calls of a record are answered by one plain map.
+pub record IsAnsweredByOneMap (script : Script) (kept : RunRecord) : Type 0 where
+  -- before each turn the buckets hold what the one map holds, and what the turn tells is so on it
+  pub one_map : IsOneMap script.shape (ordered kept.histories)
+  -- each call is answered by that map at a point of its own, a walk at several (`CallIsAnswered`)
+  pub calls : (n : ℕ) (call : Call) (reply : Reply) → slice_get script.calls n ≡ Some call → slice_get kept.replies n ≡ Some reply
+      → CallIsAnswered script.shape (ordered kept.histories) (suc n) call.cpu call.verb reply
+
+-- They are so answered, and in the order of the turns, and so of the points, phases don't fall, and each CPU's calls stand in theirs.
+pub record IsLinearizable (script : Script) (kept : RunRecord) : Type 0 where
+  pub answered : IsAnsweredByOneMap script kept
+  pub in_phases : (before : List Drawn) (first : Drawn) (later : List Drawn) → ordered kept.histories ≡ before ++ first ∷ later
+      → (then : Drawn) → Contains later then → phase_of script.cuts first.entry.call ≤ phase_of script.cuts then.entry.call
+  pub in_order : (before : List Drawn) (first : Drawn) (later : List Drawn) → ordered kept.histories ≡ before ++ first ∷ later
+      → (then : Drawn) → Contains later then → then.entry.cpu ≡ first.entry.cpu → first.entry.call ≤ then.entry.call
+
+-- Of each record they are.
+abbrev pub RecordsAreOneMap : Type 0
+RecordsAreOneMap = (script : Script) (kept : RunRecord) → SuitsItsMap script → IsRecord script kept → IsAnsweredByOneMap script kept
