@@ -6,6 +6,7 @@ pub mod Along
 pub mod Homes
 pub mod Gone
 pub mod InRecord
+pub mod Asides
 pub mod KeyPoints
 pub mod WalkPoints
 pub mod NextPoints
