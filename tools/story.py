@@ -3,7 +3,7 @@ from array import array
 
 from asked import Asked
 from reports import Add, Evict, Lookup, Next, OnStack, Pop, Push, Refill, Removal, Steal, Turn, Unlawful, Update, Walk, need
-from words import Words
+from words import Words, short
 
 # Bits of a turn's mark.
 EVICTED, ENOMEM, E2BIG, HELD = 1, 2, 4, 8
@@ -22,7 +22,7 @@ class Ragged:
 class Story:
     """What a report tells of a map with these calls: by ticket the turn, its enclosing one, elements, keys, and counts."""
 
-    def __init__(self, made, calls, report):
+    def __init__(self, made, calls, report, key=short):
         self.made, self.calls = made, calls
         self.turns = [None] * sum(map(len, report.histories.values()))
         for lock, entries in report.histories.items():
@@ -41,7 +41,7 @@ class Story:
         # Of each time in which an element was in a CPU's hand: the CPU, the element, the first and the last ticket, the call,
         # and the number of the key for which it was taken and 1, or 0 where it was to be freed.
         self.hands, self.in_hand = [], {}
-        self.words = Words(made, self.key_of)
+        self.words = Words(made, self.key_of, key)
         self.asked = Asked(calls)
         self.replay()
         self.mark_refusals(report.replies)
