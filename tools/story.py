@@ -68,8 +68,11 @@ class Story:
             self.let_go(element, len(self.turns) - 1)
 
     def follow_hands(self, ticket, entry):
-        """Which elements come into the hand of the turn's CPU, and which leave it."""
+        """Which elements come into the hand of the turn's CPU, and which leave it. On maps that don't evict each is popped and
+        pushed inside the turn of its bucket, and no other CPU can find it in a hand."""
         part = entry.part
+        if not self.made.evicts:
+            return
         if isinstance(part, Update):
             if part.put in ("added", "replaced"):
                 self.let_go(part.element, ticket)
