@@ -2,6 +2,7 @@
 import limits
 from limits import Stop
 
+# How many elements a CPU takes at once where lists are shared.
 FETCH = 128
 
 

@@ -2,10 +2,11 @@
 import zlib
 
 import limits
+from filling import FETCH
 from limits import Stop
 
-# How many elements a CPU takes at once: where lists are shared, and of its own.
-FETCH, OWN_FETCH = 128, 4
+# How many elements a CPU frees at once of its own lists.
+OWN_FETCH = 4
 
 
 def place_of(key):

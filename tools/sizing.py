@@ -7,6 +7,7 @@ import typing
 
 import limits
 from about import version
+from filling import FETCH
 
 ROW = "{:>6}  {:>6}  {:>7}  {:>7}  {:>7}  {:>7}  {:>8}\n"
 SEEDS = "{:>6}  {:>6}  {:>6}  {:>6}  {:>7}  {:>7}  {:>7}  {:>7}  {:>8}\n"
@@ -16,8 +17,6 @@ OWN = "Own lists: each CPU has max / CPUs elements for its flows, however few th
 ALONE = ("That holds for this script alone: with another order of the calls, on other CPUs, or in a race, another "
          "size is enough.\n")
 SURE = "How sure: of runs as these, drawn in the same way, with calls one after another. In a race another size is enough.\n"
-# How many elements a CPU takes at once where lists are shared.
-FETCH = 128
 # How sure a bound is to be.
 CONFIDENCE = 0.95
 
