@@ -9,13 +9,19 @@ import sys
 TOP = pathlib.Path(__file__).resolve().parents[1]
 
 
-def version(name):
-    """The line that --version tells, of the number and the date in the file VERSION."""
+def release():
+    """The number and the date in the file VERSION, or nothing where that isn't there."""
     try:
         number, date = (TOP / "VERSION").read_text().split()
     except (OSError, ValueError):
-        return f"{name} (bpfmap, which has no file VERSION)"
-    return f"{name} (bpfmap) {number}, {date}"
+        return None
+    return number, date
+
+
+def version(name):
+    """The line that --version tells."""
+    told = release()
+    return f"{name} (bpfmap) {told[0]}, {told[1]}" if told else f"{name} (bpfmap, which has no file VERSION)"
 
 
 class Parser(argparse.ArgumentParser):

@@ -148,9 +148,9 @@ class Batch:
             raise Stop(limits.WORDS, f"--show: {self.path} has no map create, so only --show can tell the map's sizes")
         return self.where, self.entry
 
-    def write(self, script, cpu):
+    def write(self, script, cpu, scale=None):
         for line, command in self.calls:
-            self.call(script, cpu, line, command)
+            self.call(script, cpu, line, command, scale)
         if self.silent:
             self.say(f"{self.path}: lines that are no calls on keys are left out: {len(self.silent)}, the first is "
                      f"line {self.silent[0]}")
@@ -158,7 +158,7 @@ class Batch:
             self.say(f"{self.path}: lines of other maps are left out: {self.others}")
         self.say(f"{self.path}: bpftool ends at the first line that fails; the script goes on")
 
-    def call(self, script, cpu, line, command):
+    def call(self, script, cpu, line, command, scale):
         table, told = script.table, {}
         while line.more():
             word = line.take("a field")
@@ -175,6 +175,9 @@ class Batch:
         for field in ("key", "value")[:{"update": 2, "getnext": 0}.get(command, 1)]:
             if field not in told:
                 line.wrong(f"the {field} is missing")
+        if scale and "key" in told and not scale.has(told["key"]):
+            scale.calls_left += 1
+            return
         words = [told["key"]] if "key" in told else []
         if command == "update":
             padded = told["value"] + "00" * (-table.value % 8)

@@ -3,7 +3,7 @@ from array import array
 
 from asked import Asked
 from reports import Add, Evict, Lookup, Next, OnStack, Pop, Push, Refill, Removal, Steal, Turn, Unlawful, Update, Walk, need
-from words import Words
+from words import Words, short
 
 # Bits of a turn's mark.
 EVICTED, ENOMEM, E2BIG, HELD = 1, 2, 4, 8
@@ -22,7 +22,7 @@ class Ragged:
 class Story:
     """What a report tells of a map with these calls: by ticket the turn, its enclosing one, elements, keys, and counts."""
 
-    def __init__(self, made, calls, report):
+    def __init__(self, made, calls, report, key=short):
         self.made, self.calls = made, calls
         self.turns = [None] * sum(map(len, report.histories.values()))
         for lock, entries in report.histories.items():
@@ -38,7 +38,10 @@ class Story:
         self.free, self.kept = array("I"), array("I")
         self.free_at_first = made.elements - (made.cpus if made.kind == "hash" else 0)
         self.numbers, self.key_of = {}, {}
-        self.words = Words(made, self.key_of)
+        # Of each time in which an element was in a CPU's hand: the CPU, the element, the first and the last ticket, the call,
+        # and the number of the key for which it was taken and 1, or 0 where it was to be freed.
+        self.hands, self.in_hand = [], {}
+        self.words = Words(made, self.key_of, key)
         self.asked = Asked(calls)
         self.replay()
         self.mark_refusals(report.replies)
@@ -51,6 +54,7 @@ class Story:
             wrong = self.asked.wrong(entry.cpu, entry.call, *call_words(part))
             need(not wrong, wrong)
             self.enclose(ticket, lock, entry, open_turns[entry.cpu])
+            self.follow_hands(ticket, entry)
             self.tell(part, self.calls[entry.call - 1])
             if isinstance(part, Evict):
                 self.marks[ticket] |= EVICTED if part.holder is None else HELD
@@ -60,6 +64,53 @@ class Story:
             need(free >= 0 and kept >= 0, f"the entry with ticket {ticket}: so many elements don't exist")
             self.free.append(free)
             self.kept.append(kept)
+        for element in list(self.in_hand):
+            self.let_go(element, len(self.turns) - 1)
+
+    def follow_hands(self, ticket, entry):
+        """Which elements come into the hand of the turn's CPU, and which leave it. On maps that don't evict each is popped and
+        pushed inside the turn of its bucket, and no other CPU can find it in a hand."""
+        part = entry.part
+        if not self.made.evicts:
+            return
+        if isinstance(part, Update):
+            if part.put in ("added", "replaced"):
+                self.let_go(part.element, ticket)
+            if part.put == "replaced":
+                self.take_up(part.old, ticket, entry, 0)
+            if part.put not in ("added", "replaced") and part.offer is not None:
+                self.take_up(part.offer, ticket, entry, 0)
+        elif isinstance(part, Push) or isinstance(part, OnStack) and part.verb == "push":
+            if part.element is not None and getattr(part, "how", "done") == "done":
+                self.let_go(part.element, ticket)
+        elif isinstance(part, Removal) and part.element is not None:
+            self.take_up(part.element, ticket, entry, 0)
+        elif isinstance(part, Walk) and part.removes:
+            for element, _, _ in part.taken:
+                self.take_up(element, ticket, entry, 0)
+        else:
+            self.take_for_key(ticket, entry)
+
+    def take_for_key(self, ticket, entry):
+        part, call = entry.part, self.calls[entry.call - 1]
+        element = taken(part)
+        if isinstance(part, Steal) and part.how != "none":
+            element = part.element
+        if isinstance(part, OnStack) and part.verb == "pop":
+            element = part.element
+        if element is None or self.in_hand.get(element, (None,))[0] == entry.cpu:
+            return
+        key = call.key if call.key is not None or not hasattr(part, "hash") else self.key_for(part, call)
+        self.take_up(element, ticket, entry, 0 if key is None else self.number(key) + 1)
+
+    def take_up(self, element, ticket, entry, key):
+        self.let_go(element, ticket)
+        self.in_hand[element] = entry.cpu, ticket, entry.call, key
+
+    def let_go(self, element, ticket):
+        if element in self.in_hand:
+            cpu, begin, call, key = self.in_hand.pop(element)
+            self.hands.append((cpu, element, begin, ticket, call, key))
 
     def enclose(self, ticket, lock, entry, inside):
         """The turns of a CPU that no other has enclosed yet lie in its next one, if that may hold any. A turn of a freelist,

@@ -20,7 +20,9 @@ def count(number, name):
 class Words:
     """Tells entries of a map. `key_of` has the key of each element that has or had one."""
 
-    def __init__(self, made, key_of):
+    def __init__(self, made, key_of, key=short):
+        # (how a key is told)
+        self.key = key
         self.made, self.key_of, self.taken_for, self.call = made, key_of, None, None
         self.tellers = {
             Lookup: self.lookup,
@@ -46,12 +48,12 @@ class Words:
 
     def named(self, element):
         key = self.key_of.get(element)
-        return f"element {element}" if key is None else f"element {element} (key {short(key)})"
+        return f"element {element}" if key is None else f"element {element} (key {self.key(key)})"
 
     # Buckets.
 
     def lookup(self, part):
-        who = f"{SIDES[part.side]} lookup of key {short(part.key)}"
+        who = f"{SIDES[part.side]} lookup of key {self.key(part.key)}"
         if part.element is None:
             return [f"{who}: it isn't there"]
         lines = [f"{who}: element {part.element} has it", f"value {short(part.value)}"]
@@ -61,7 +63,7 @@ class Words:
 
     def update(self, part):
         flags = FLAGS.get(part.flags, part.flags)
-        lines = [f"{SIDES[part.side]} update ({flags}) of key {short(part.key)}", f"to value {short(part.value)}"]
+        lines = [f"{SIDES[part.side]} update ({flags}) of key {self.key(part.key)}", f"to value {short(part.value)}"]
         if part.offer is not None:
             lines.append(f"with element {part.offer}, which was taken for it")
         put = {
@@ -75,7 +77,7 @@ class Words:
         return [*lines, put[part.put]]
 
     def removal(self, part):
-        who = f"{part.verb} of key {short(part.key)}"
+        who = f"{part.verb} of key {self.key(part.key)}"
         if part.element is None:
             return [f"{who}: it isn't there"]
         lines = [f"{who}: element {part.element} is out of the bucket"]
@@ -85,12 +87,12 @@ class Words:
         found = {
             "absent": "it isn't there",
             "last": "it is the last of this bucket",
-            "key": f"key {short(part.after)} follows",
+            "key": f"key {self.key(part.after)} follows",
         }
-        return [f"next key behind {short(part.key)}: {found[part.found]}"]
+        return [f"next key behind {self.key(part.key)}: {found[part.found]}"]
 
     def first(self, part):
-        return ["the bucket is empty" if part.key is None else f"the first key is {short(part.key)}"]
+        return ["the bucket is empty" if part.key is None else f"the first key is {self.key(part.key)}"]
 
     def walk(self, part):
         verb = "walk over all elements" if self.call.verb == "each" else f"batch {'take' if part.removes else 'lookup'}"
@@ -99,9 +101,9 @@ class Words:
             return [f"{who}: the bucket has {part.over}, too many"]
         did = "takes out" if part.removes else "reads"
         lines = [f"{who}: {did} {count(len(part.taken), 'element')}"]
-        lines += [f"- element {row[0]}: key {short(row[1])}, value {short(row[2])}" for row in part.taken]
+        lines += [f"- element {row[0]}: key {self.key(row[1])}, value {short(row[2])}" for row in part.taken]
         if self.call.stop in [key for _, key, _ in part.taken]:
-            lines.append(f"it is stopped at key {short(self.call.stop)}: what stands behind it isn't handed over")
+            lines.append(f"it is stopped at key {self.key(self.call.stop)}: what stands behind it isn't handed over")
         return lines
 
     def evict(self, part):
@@ -136,7 +138,7 @@ class Words:
         return "gets no element" if element is None else self.taken(element)
 
     def taken(self, element):
-        return f"element {element} is taken for key {short(self.taken_for)}"
+        return f"element {element} is taken for key {self.key(self.taken_for)}"
 
     def steal(self, part):
         took = {
