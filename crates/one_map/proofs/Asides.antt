@@ -62,7 +62,7 @@ turn_among histories x [] there = absurd there
 turn_among histories x (y ∷ xs) (inl same) = inl (ap turn_of same)
 turn_among histories x (y ∷ xs) (inr later) = inr (turn_among histories x xs later)
 
-clash : {P : Type 0} (b : Bool) → b ≡ true → b ≡ false → P
+pub clash : {P : Type 0} (b : Bool) → b ≡ true → b ≡ false → P
 clash b is is_not = absurd (let never : true ≡ false = sym is ∙ is_not in cc)
 
 pub same_one : (histories : List LockHistory) (xs : List Drawn) → HaveOne (turns_of (map (at_of histories) xs)) → (x y : Drawn) → IsAmong x xs → IsAmong y xs

@@ -8,6 +8,7 @@ pub mod Gone
 pub mod InRecord
 pub mod Asides
 pub mod KeyPoints
+pub mod BatchPoints
 pub mod WalkPoints
 pub mod NextPoints
 pub mod CallPlaces

@@ -17,7 +17,7 @@ use Rattle.one_map.specs.Laws.{IsOneMap}
 pub record IsAnsweredByOneMap (script : Script) (kept : RunRecord) : Type 0 where
   -- before each turn the buckets hold what the one map holds, and what the turn tells is so on it
   pub one_map : IsOneMap script.shape (ordered kept.histories)
-  -- each call is answered by that map, one on one key at its only turn on keys, a batch and a walk at several (`CallIsAnswered`)
+  -- each call is answered by that map, one on one key at its only turn on keys, a batch write at one for each entry (`CallIsAnswered`)
   pub calls : (n : ℕ) (call : Call) (reply : Reply) → slice_get script.calls n ≡ Some call → slice_get kept.replies n ≡ Some reply
       → CallIsAnswered script.shape (ordered kept.histories) (suc n) call.cpu call.verb reply
 
