@@ -21,11 +21,12 @@ use Rattle.turn_order.proofs.Members.{IsAmong}
 use Rattle.step_check.proofs.PlacedTurns.{at_of}
 use Rattle.one_map.specs.Answers.{is_on_keys}
 
--- none is on keys, and at most one is
+-- none is a turn on keys
 abbrev pub AreAside : List Turn → Type 0
 AreAside [] = Unit {0}
 AreAside (turn ∷ turns) = (is_on_keys turn.part ≡ false) × AreAside turns
 
+-- at most one is
 abbrev pub HaveOne : List Turn → Type 0
 HaveOne [] = Unit {0}
 HaveOne (turn ∷ turns) = MatchBool (is_on_keys turn.part) (AreAside turns) (HaveOne turns)
