@@ -1,4 +1,5 @@
--- Linearizable: the calls of a record are answered by one plain map, in the order of the tickets of all turns.
+-- The calls of a record are answered by one plain map, in the order of the tickets of all turns. Of real time a record knows the phases
+-- and each CPU's order, and these are kept.
 use Rattle.std.specs.Prelude.{◌≡◌, ℕ, suc, ◌≤◌, List, ◌∷◌, ◌++◌, Some, slice_get}
 use Rattle.std.specs.List.{Contains}
 use Rattle.map_types.specs.declared.call.Call.{Call}
@@ -21,7 +22,7 @@ pub record IsAnsweredByOneMap (script : Script) (kept : RunRecord) : Type 0 wher
   pub calls : (n : ℕ) (call : Call) (reply : Reply) → slice_get script.calls n ≡ Some call → slice_get kept.replies n ≡ Some reply
       → CallIsAnswered script.shape (ordered kept.histories) (suc n) call.cpu call.verb reply
 
--- They are so answered, and in the order of the turns, and so of the points, phases don't fall, and each CPU's calls stand in theirs.
+-- They are so answered; and along the turns the phases of their calls never fall, nor do the numbers of one CPU's calls.
 pub record IsLinearizable (script : Script) (kept : RunRecord) : Type 0 where
   pub answered : IsAnsweredByOneMap script kept
   pub in_phases : (before : List Drawn) (first : Drawn) (later : List Drawn) → ordered kept.histories ≡ before ++ first ∷ later
@@ -29,6 +30,6 @@ pub record IsLinearizable (script : Script) (kept : RunRecord) : Type 0 where
   pub in_order : (before : List Drawn) (first : Drawn) (later : List Drawn) → ordered kept.histories ≡ before ++ first ∷ later
       → (then : Drawn) → Contains later then → then.entry.cpu ≡ first.entry.cpu → first.entry.call ≤ then.entry.call
 
--- Of each record they are.
+-- The calls of each record are answered by one plain map, whatever the starts of its phases are.
 abbrev pub RecordsAreOneMap : Type 0
 RecordsAreOneMap = (script : Script) (kept : RunRecord) → SuitsItsMap script → IsRecord script kept → IsAnsweredByOneMap script kept
