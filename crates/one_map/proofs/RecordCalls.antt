@@ -14,7 +14,7 @@ use Rattle.map_types.specs.declared.reply.Reply.{Reply}
 use Rattle.map_types.specs.ElementLists.{put}
 use Rattle.map_script.specs.declared.script.Script.{Script}
 use Rattle.map_report.specs.declared.record.RunRecord.{RunRecord}
-use Rattle.map_report.specs.Record.{IsRecord, IsConcatenation, IsCallOf, EachAnswered, has_cpu}
+use Rattle.map_report.specs.Record.{IsRecord, IsConcatenation, IsCallOf, EachAnswered, MayAnswer, has_cpu}
 use Rattle.map_report.proofs.CutLemmas.{Rise, cuts_rise}
 use Rattle.place_words.specs.Handing.{StopsAt}
 use Rattle.place_words.specs.declared.history.LockHistory.{LockHistory}
@@ -151,30 +151,39 @@ abbrev Anywhere : Drawn → Type 0
 Anywhere drawn = Unit {0}
 
 pub call_answered : (shape : Shape) (histories : List LockHistory) (turns : List Drawn) (whole : IsOneMap shape turns) (number cpu : ℕ) (spare : Option ℕ) (verb : Verb) (its : List TurnAt) (reply : Reply) → IsTrace shape cpu spare verb its reply
-    → ((turn : Turn) → IsAmong turn (turns_of its) → IsMade turns number cpu turn)
+    → MayAnswer shape verb reply → ((turn : Turn) → IsAmong turn (turns_of its) → IsMade turns number cpu turn)
     → ((verb : Verb) → IsAnsweredBy shape turns whole number cpu Anywhere verb reply (turns_of its) → IsAnsweredOnce shape turns number cpu verb reply)
     → (mine : List Drawn) → map (at_of histories) mine ≡ its → AreLeft shape histories turns whole number cpu 0 mine → CallIsAnswered shape turns number cpu verb reply
-call_answered shape histories turns whole number cpu spare (verbs.Lookup side key) its reply trace all once mine are left =
+call_answered shape histories turns whole number cpu spare (verbs.Lookup side key) its reply trace may all once mine are left =
     once (verbs.Lookup side key) (key_answered shape turns whole number cpu Anywhere spare (verbs.Lookup side key) its reply trace (λ turn there. (all turn there, tt)))
-call_answered shape histories turns whole number cpu spare (verbs.Update side flags key value) its reply trace all once mine are left =
+call_answered shape histories turns whole number cpu spare (verbs.Update side flags key value) its reply trace may all once mine are left =
     once (verbs.Update side flags key value) (key_answered shape turns whole number cpu Anywhere spare (verbs.Update side flags key value) its reply trace (λ turn there. (all turn there, tt)))
-call_answered shape histories turns whole number cpu spare (verbs.Delete key) its reply trace all once mine are left =
+call_answered shape histories turns whole number cpu spare (verbs.Delete key) its reply trace may all once mine are left =
     once (verbs.Delete key) (key_answered shape turns whole number cpu Anywhere spare (verbs.Delete key) its reply trace (λ turn there. (all turn there, tt)))
-call_answered shape histories turns whole number cpu spare (verbs.Take key) its reply trace all once mine are left =
+call_answered shape histories turns whole number cpu spare (verbs.Take key) its reply trace may all once mine are left =
     once (verbs.Take key) (key_answered shape turns whole number cpu Anywhere spare (verbs.Take key) its reply trace (λ turn there. (all turn there, tt)))
-call_answered shape histories turns whole number cpu spare (verbs.Next key) its reply trace all once mine are left = next_answered shape turns whole number cpu key (turns_of its) reply trace all
-call_answered shape histories turns whole number cpu spare (verbs.BatchRead remove count start flags) its reply trace all once mine are left = read_told shape turns whole number cpu remove count start flags its reply trace all
-call_answered shape histories turns whole number cpu spare (verbs.BatchUpdate flags pairs) its reply trace all once mine are left =
+call_answered shape histories turns whole number cpu spare (verbs.Next key) its reply trace may all once mine are left = next_answered shape turns whole number cpu key (turns_of its) reply trace all
+call_answered shape histories turns whole number cpu spare (verbs.BatchRead remove count start flags) its reply trace may all once mine are left = (may, read_told shape turns whole number cpu remove count start flags its reply trace all)
+call_answered shape histories turns whole number cpu spare (verbs.BatchUpdate flags pairs) its reply trace may all once mine are left =
     either (eqb flags 0) trace (λ writes. writes_answered shape histories turns whole number cpu spare (updates_of pairs) 0 its reply writes 0 mine are left) (λ refused. (refused.1, no_turn shape histories turns whole number cpu mine left (are ∙ refused.0)))
-call_answered shape histories turns whole number cpu spare (verbs.BatchDelete flags keys) its reply trace all once mine are left =
+call_answered shape histories turns whole number cpu spare (verbs.BatchDelete flags keys) its reply trace may all once mine are left =
     either (eqb flags 0) trace (λ writes. writes_answered shape histories turns whole number cpu spare (deletes_of keys) 0 its reply writes 0 mine are left) (λ refused. (refused.1, no_turn shape histories turns whole number cpu mine left (are ∙ refused.0)))
-call_answered shape histories turns whole number cpu spare (verbs.Each flags stop) its reply trace all once mine are left = handing_told shape turns whole number cpu (StopsAt stop) flags (turns_of its) reply trace all
+call_answered shape histories turns whole number cpu spare (verbs.Each flags stop) its reply trace may all once mine are left = (may, handing_told shape turns whole number cpu (StopsAt stop) flags (turns_of its) reply trace all)
 
 replies_counted : (shape : Shape) (calls : List Call) (replies : List Reply) → EachAnswered shape calls replies → length replies ≡ length calls
 replies_counted shape [] [] each = refl
 replies_counted shape [] (reply ∷ replies) each = absurd each
 replies_counted shape (call ∷ calls) [] each = absurd each
 replies_counted shape (call ∷ calls) (reply ∷ replies) each = ap suc (replies_counted shape calls replies each.1)
+
+-- a call's reply is one that its verb may have
+may_answer : (shape : Shape) (calls : List Call) (replies : List Reply) → EachAnswered shape calls replies → (n : ℕ) (call : Call) (reply : Reply) → slice_get calls n ≡ Some call → slice_get replies n ≡ Some reply
+    → MayAnswer shape call.verb reply
+may_answer shape [] replies each n call reply at at_reply = absurd (none-some call at)
+may_answer shape (c ∷ calls) [] each n call reply at at_reply = absurd each
+may_answer shape (c ∷ calls) (r ∷ replies) each zero call reply at at_reply =
+    subst (λ (q : Call). MayAnswer shape q.verb reply) (same_Some c call at) (subst (λ (q : Reply). MayAnswer shape c.verb q) (same_Some r reply at_reply) each.0)
+may_answer shape (c ∷ calls) (r ∷ replies) each (suc n) call reply at at_reply = may_answer shape calls replies each.1 n call reply at at_reply
 
 -- A call on one key, by all turns with its number
 
@@ -329,6 +338,7 @@ module _ (script : Script) (kept : RunRecord) (suits : SuitsItsMap script) (reco
           let of = named_of kept.histories (turn_count kept.histories) (record_ascend script kept record_is) call.cpu (first + m) found.mine found.its found.is_call.names in
           subst (λ (k : ℕ). CallIsAnswered script.shape turns k call.cpu call.verb reply) same
           (call_answered script.shape kept.histories turns (record_is_one_map script kept record_is) (first + m) call.cpu found.spare call.verb found.its reply found.is_call.trace
+          (may_answer script.shape script.calls kept.replies record_is.replies n call reply at_call at_reply)
           (λ turn there. made its.number strand its.at (first + m) call.cpu found.mine found.its found.is_call.names found.inside turn there)
           (λ verb answered. answered_once script.shape kept.histories turns (record_is_one_map script kept record_is) (first + m) call.cpu mine every verb reply found.its are answered)
           mine (sym are)
