@@ -1,3 +1,4 @@
+pub mod AtHome
 pub mod Finds
 pub mod BucketStep
 pub mod Told
