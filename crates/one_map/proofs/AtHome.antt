@@ -1,5 +1,5 @@
 -- Turns of buckets are at home: each is of a bucket's lock, and one on a key of the key's bucket.
-use Rattle.std.specs.Prelude.{◌≡◌, ℕ}
+use Rattle.std.specs.Prelude.{◌≡◌, ◌≤◌, ℕ}
 use Rattle.map_types.specs.declared.attr.Shape.{Shape}
 use Rattle.map_types.specs.declared.kind.DomainId.{DomainId}
 use Rattle.map_types.specs.declared.kind.DomainId.TheVariants.{Bucket}
@@ -9,10 +9,10 @@ use Rattle.place_words.specs.declared.history.Part.{Part}
 use Rattle.place_words.specs.declared.history.Part.TheVariants as parts
 use Rattle.place_words.specs.Turns.{bucket_of_key}
 
--- a turn on a key is one of the key's bucket
+-- a turn on a key is one of the key's bucket, and an update's flags are known ones
 abbrev pub HasItsKey : Shape → ℕ → BucketPart → Type 0
 HasItsKey shape bucket (Lookup side key got) = bucket_of_key shape key ≡ bucket
-HasItsKey shape bucket (Update side flags key value offer did) = bucket_of_key shape key ≡ bucket
+HasItsKey shape bucket (Update side flags key value offer did) = (bucket_of_key shape key ≡ bucket) × (flags ≤ 2)
 HasItsKey shape bucket (Delete key _) = bucket_of_key shape key ≡ bucket
 HasItsKey shape bucket (Take key _) = bucket_of_key shape key ≡ bucket
 HasItsKey shape bucket (Next key found) = bucket_of_key shape key ≡ bucket
