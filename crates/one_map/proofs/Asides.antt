@@ -19,7 +19,7 @@ use Rattle.place_words.specs.Takings.{Acquires, Chase, evicts, Frees, FreesPendi
 use Rattle.place_words.specs.Turns.{Turn, TurnAt, turns_of, on_lock, on_freelist_of}
 use Rattle.turn_order.proofs.Members.{IsAmong}
 use Rattle.step_check.proofs.PlacedTurns.{at_of}
-use Rattle.one_map.specs.Answers.{is_on_keys}
+use Rattle.one_map.specs.CallTurns.{is_on_keys}
 
 -- none is a turn on keys
 abbrev pub AreAside : List Turn → Type 0
@@ -178,7 +178,7 @@ module _ (shape : Shape) where
       stolen rest None go may = go may
       stolen rest (Some e) go may = none_at rest may.0
 
-  frees_aside : (e : ℕ) (turns : List TurnAt) → Frees shape e turns → AreAside (turns_of turns)
+  pub frees_aside : (e : ℕ) (turns : List TurnAt) → Frees shape e turns → AreAside (turns_of turns)
   frees_aside e turns frees =
       either shape.common frees
       (λ shared. ⊎_elim

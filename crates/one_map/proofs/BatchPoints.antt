@@ -14,7 +14,8 @@ use Rattle.place_words.specs.Walks.{refused_with, spare_left, Writes}
 use Rattle.turn_order.proofs.InOrder.{ticket_from}
 use Rattle.turn_order.proofs.Members.{IsAmong, among_back, among_front, append_among, contains_among, map_among}
 use Rattle.step_check.proofs.PlacedTurns.{at_of}
-use Rattle.one_map.specs.Answers.{AreAnswered, HasNoTurn, HasNoTurnFrom, HasPoint, IsAnsweredFrom, is_on_keys}
+use Rattle.one_map.specs.Answers.{AreAnswered, HasNoTurn, HasNoTurnFrom, HasPoint, IsAnsweredFrom}
+use Rattle.one_map.specs.CallTurns.{is_on_keys}
 use Rattle.one_map.specs.Laws.{IsOneMap}
 use Rattle.one_map.proofs.Asides.{AreAside, HaveOne, aside_among, clash, same_one, turn_among}
 use Rattle.one_map.proofs.KeyPoints.{IsAnsweredBy, Made, key_answered}

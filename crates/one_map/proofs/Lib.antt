@@ -8,6 +8,7 @@ pub mod Homes
 pub mod Gone
 pub mod InRecord
 pub mod Asides
+pub mod VerbTurns
 pub mod KeyPoints
 pub mod BatchPoints
 pub mod WalkPoints

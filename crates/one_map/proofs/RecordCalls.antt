@@ -1,5 +1,5 @@
 -- Each call of a record is answered by the one map at its point.
-use Rattle.std.proofs.Common.{◌≡◌, ℕ, zero, suc, ◌+◌, ◌<◌, ◌≤◌, Bool, true, false, eqb, List, [], ◌∷◌, ◌++◌, length, get_or, Option, None, Some, refl, ap, sym, ◌∙◌, subst, arith, inl, inr, ◌⊎◌, ⊎_elim, map}
+use Rattle.std.proofs.Common.{◌≡◌, ℕ, zero, suc, ◌+◌, ◌-◌, ◌<◌, ◌≤◌, Bool, true, false, eqb, List, [], ◌∷◌, ◌++◌, length, drop, get_or, Option, None, Some, refl, ap, sym, ◌∙◌, subst, arith, inl, inr, ◌⊎◌, ⊎_elim, map}
 use Rattle.std.specs.Prelude.{filter, slice_get, option_to_list, MatchBool, MatchOption}
 use Rattle.std.specs.List.{range_with_len}
 use Rattle.std.proofs.lemmas.Bool.{eq-eqb}
@@ -32,14 +32,16 @@ use Rattle.turn_order.specs.OrderLaws.{turn_count}
 use Rattle.turn_order.proofs.Members.{IsAmong, among_front, among_back, among_filter, append_among, contains_among, map_among, among_all, place_among}
 use Rattle.turn_order.proofs.InOrder.{ascend_filter}
 use Rattle.turn_order.proofs.TicketOrder.{among_range, ordered_ascend}
+use Rattle.record_shape.proofs.ByPlaces.{at_taken, at_dropped}
 use Rattle.serial_laws.specs.Served.{SuitsItsMap}
-use Rattle.step_check.proofs.InRecords.{any_here, cpu_within, of_strand}
+use Rattle.step_check.proofs.InRecords.{any_here, cpu_within, of_strand, phase_within}
 use Rattle.step_check.proofs.PlacedTurns.{at_of}
 use Rattle.step_check.proofs.RecordLocks.{record_once, record_apart, record_lock, record_ascend}
 use Rattle.step_check.proofs.StepTurns.{drawn_at, drawn_by, IsOf, named, named_of}
-use Rattle.step_check.proofs.StrandCalls.{call_found}
+use Rattle.step_check.proofs.StrandCalls.{HasCall, call_found, is_call}
 use Rattle.step_check.proofs.StrandOrder.{in_strand, is_of_strand, strand_has, strand_is}
 use Rattle.one_map.specs.Answers.{CallIsAnswered, HasPoint, IsAnsweredOnce}
+use Rattle.one_map.specs.CallTurns.{IsOfCall, IsTurnOf}
 use Rattle.one_map.specs.Laws.{IsOneMap}
 use Rattle.one_map.proofs.CallPlaces.{InPhase, its_phase, at_phase}
 use Rattle.one_map.proofs.InRecord.{record_is_one_map}
@@ -47,6 +49,7 @@ use Rattle.one_map.proofs.Asides.{AreAside, HaveOne, aside_among, same_one, turn
 use Rattle.one_map.proofs.BatchPoints.{AreLeft, Rises, no_turn, rises_first, rises_later, rises_of, writes_answered}
 use Rattle.one_map.proofs.KeyPoints.{IsMade, IsAnsweredBy, key_answered}
 use Rattle.one_map.proofs.NextPoints.{next_answered}
+use Rattle.one_map.proofs.VerbTurns.{each_such, trace_such}
 use Rattle.one_map.proofs.WalkPoints.{read_told, handing_told}
 
 -- One call of a strand
@@ -308,6 +311,33 @@ module _ (script : Script) (kept : RunRecord) (suits : SuitsItsMap script) (reco
           let call_at : slice_get its m ≡ Some call =
           ap (λ (q : ℕ). slice_get (of_phase script.cuts q script.calls) m) other.phase_is ∙ at_phase script.cuts all rises script.calls refl (phase_of script.cuts (suc n)) n m call place within at_call in
           has.cpu_is ∙ ap (λ (c : Call). c.cpu) (same_Some has.call call (sym has.call_is ∙ (ap (slice_get its) at_is ∙ call_at)))
+
+  -- each turn is of a call
+  pub each_of_call : (x : Drawn) → IsAmong x turns → IsOfCall script.calls x
+  each_of_call x there = by (strand_at (phase_of script.cuts x.entry.call) x.entry.cpu (phase_within script.cuts x.entry.call) (cpu_within script kept record_is x there))
+    where
+      by : StrandAt (phase_of script.cuts x.entry.call) x.entry.cpu → IsOfCall script.calls x
+      by its =
+          let strand : Strand = its.strand in
+          let first : ℕ = calls_before script.cuts (length script.calls) strand.phase in
+          let has : HasCall script.shape kept.histories (suc first) (of_phase script.cuts strand.phase script.calls) strand.steps x =
+          call_found script.shape kept.histories (turn_count kept.histories) (record_ascend script kept record_is) strand.cpus (suc first) (of_phase script.cuts strand.phase script.calls)
+          (of_phase script.cuts strand.phase kept.replies) (record_is.spares strand.phase) (record_is.spares (suc strand.phase)) strand.steps (record_is.calls_are its.number strand its.at) x
+          (in_strand_of (phase_of script.cuts x.entry.call) x.entry.cpu its x there refl refl) in
+          record {
+            place = first + has.at;
+            call = has.call;
+            call_is = sym (at_dropped first script.calls has.at)
+                ∙ at_taken (calls_before script.cuts (length script.calls) (suc strand.phase) - first) (drop first script.calls) has.at has.call has.call_is;
+            number_is = omega (arith, has.number_is);
+            cpu_is = has.cpu_is;
+            part_is = each_such (IsTurnOf has.call.verb) (turns_of (map (at_of kept.histories) (filter (is_call x.entry.call) (drawn_by kept.histories strand.steps))))
+                (trace_such script.shape has.call.cpu has.spare has.call.verb (map (at_of kept.histories) (filter (is_call x.entry.call) (drawn_by kept.histories strand.steps))) has.reply has.trace)
+                (turn_of x)
+                (turn_among kept.histories x (filter (is_call x.entry.call) (drawn_by kept.histories strand.steps))
+                (among_filter (is_call x.entry.call) x (drawn_by kept.histories strand.steps) (eq-eqb x.entry.call x.entry.call refl)
+                (in_strand_of (phase_of script.cuts x.entry.call) x.entry.cpu its x there refl refl)));
+          }
 
   pub each_answered : (n : ℕ) (call : Call) (reply : Reply) → slice_get script.calls n ≡ Some call → slice_get kept.replies n ≡ Some reply
       → CallIsAnswered script.shape turns (suc n) call.cpu call.verb reply

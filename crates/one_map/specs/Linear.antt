@@ -12,6 +12,7 @@ use Rattle.place_words.specs.Phases.{phase_of}
 use Rattle.serial_laws.specs.Served.{SuitsItsMap}
 use Rattle.turn_order.specs.Ordered.{ordered}
 use Rattle.one_map.specs.Answers.{CallIsAnswered}
+use Rattle.one_map.specs.CallTurns.{IsOfCall}
 use Rattle.one_map.specs.Laws.{IsOneMap}
 
 -- The calls of a record are answered by one plain map.
@@ -21,6 +22,9 @@ pub record IsAnsweredByOneMap (script : Script) (kept : RunRecord) : Type 0 wher
   -- each call is answered by that map, one on one key at its only turn on keys, a batch write at one for each entry (`CallIsAnswered`)
   pub calls : (n : ℕ) (call : Call) (reply : Reply) → slice_get script.calls n ≡ Some call → slice_get kept.replies n ≡ Some reply
       → CallIsAnswered script.shape (ordered kept.histories) (suc n) call.cpu call.verb reply
+  -- and each turn is of a call, one on keys such as that call makes: so a key goes by a call that deletes, takes or removes,
+  -- or by an eviction
+  pub of_calls : (drawn : Drawn) → Contains (ordered kept.histories) drawn → IsOfCall script.calls drawn
 
 -- They are so answered; and along the turns the phases of their calls never fall, nor do the numbers of one CPU's calls.
 pub record IsLinearizable (script : Script) (kept : RunRecord) : Type 0 where
