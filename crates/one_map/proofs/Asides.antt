@@ -19,13 +19,14 @@ use Rattle.place_words.specs.Takings.{Acquires, Chase, evicts, Frees, FreesPendi
 use Rattle.place_words.specs.Turns.{Turn, TurnAt, turns_of, on_lock, on_freelist_of}
 use Rattle.turn_order.proofs.Members.{IsAmong}
 use Rattle.step_check.proofs.PlacedTurns.{at_of}
-use Rattle.one_map.specs.Answers.{is_on_keys}
+use Rattle.one_map.specs.CallTurns.{is_on_keys}
 
--- none is on keys, and at most one is
+-- none is a turn on keys
 abbrev pub AreAside : List Turn → Type 0
 AreAside [] = Unit {0}
 AreAside (turn ∷ turns) = (is_on_keys turn.part ≡ false) × AreAside turns
 
+-- at most one is
 abbrev pub HaveOne : List Turn → Type 0
 HaveOne [] = Unit {0}
 HaveOne (turn ∷ turns) = MatchBool (is_on_keys turn.part) (AreAside turns) (HaveOne turns)
@@ -62,7 +63,7 @@ turn_among histories x [] there = absurd there
 turn_among histories x (y ∷ xs) (inl same) = inl (ap turn_of same)
 turn_among histories x (y ∷ xs) (inr later) = inr (turn_among histories x xs later)
 
-clash : {P : Type 0} (b : Bool) → b ≡ true → b ≡ false → P
+pub clash : {P : Type 0} (b : Bool) → b ≡ true → b ≡ false → P
 clash b is is_not = absurd (let never : true ≡ false = sym is ∙ is_not in cc)
 
 pub same_one : (histories : List LockHistory) (xs : List Drawn) → HaveOne (turns_of (map (at_of histories) xs)) → (x y : Drawn) → IsAmong x xs → IsAmong y xs
@@ -177,7 +178,7 @@ module _ (shape : Shape) where
       stolen rest None go may = go may
       stolen rest (Some e) go may = none_at rest may.0
 
-  frees_aside : (e : ℕ) (turns : List TurnAt) → Frees shape e turns → AreAside (turns_of turns)
+  pub frees_aside : (e : ℕ) (turns : List TurnAt) → Frees shape e turns → AreAside (turns_of turns)
   frees_aside e turns frees =
       either shape.common frees
       (λ shared. ⊎_elim

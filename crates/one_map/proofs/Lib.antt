@@ -1,3 +1,4 @@
+pub mod AtHome
 pub mod Finds
 pub mod BucketStep
 pub mod Told
@@ -7,7 +8,9 @@ pub mod Homes
 pub mod Gone
 pub mod InRecord
 pub mod Asides
+pub mod VerbTurns
 pub mod KeyPoints
+pub mod BatchPoints
 pub mod WalkPoints
 pub mod NextPoints
 pub mod CallPlaces

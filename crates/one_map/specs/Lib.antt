@@ -1,5 +1,6 @@
 pub mod PlainMap
 pub mod Turns
 pub mod Laws
+pub mod CallTurns
 pub mod Answers
 pub mod Linear
