@@ -12,15 +12,15 @@ use Rattle.run_words.specs.Words.{are_words, mode_of}
 use Rattle.map_run.specs.Finish.{RanAs}
 
 -- With status 1 the words are good, and an input was read to its end that is read as a fault.
-abbrev pub FaultHasCause : Type 0
-FaultHasCause =
+abbrev pub FaultyInputHasCause : Type 0
+FaultyInputHasCause =
     (words : List (List ℕ)) (left rest : Option (List ℕ)) (read_faults read_then : ℕ) (before after : Option Written) (write_faults written_then : ℕ) (finish : Finish ClosedView)
     → Finishes IsCopyOf (HasCause RanAs IsSaid words left rest (Rose read_faults read_then)) before after (Rose write_faults written_then) finish
     → finish.status ≡ 1 → IsTrue (are_words words) × IsFaulty (mode_of words) left rest
 
--- With status 3 the source's count of faults rose, and with 4 the sink's did.
-abbrev pub StoppedByFault : Type 0
-StoppedByFault =
+-- With status 3 the source's count of faults rose, or stands at its last value, and with 4 the sink's.
+abbrev pub FaultsRose : Type 0
+FaultsRose =
     (words : List (List ℕ)) (left rest : Option (List ℕ)) (read_faults read_then : ℕ) (before after : Option Written) (write_faults written_then : ℕ) (finish : Finish ClosedView)
     → Finishes IsCopyOf (HasCause RanAs IsSaid words left rest (Rose read_faults read_then)) before after (Rose write_faults written_then) finish
     → (finish.status ≡ 3 → Rose read_faults read_then) × (finish.status ≡ 4 → Rose write_faults written_then)

@@ -197,9 +197,10 @@ NoneStopped steps = All (λ (step : Step). ¬ (IsTrue (has_stopped step.put))) s
 abbrev pub system_value : Shape → Finals → List ℕ → Option (List ℕ)
 system_value shape held key = option_map (λ (stored : Stored). value_read shape Sys 0 stored.values) (present key (bucket_at shape held key))
 
--- Two maps hold the same keys, each with the same value.
+-- Two maps hold the same keys, each with the same value for the system call. Where values have their sizes in both, each CPU's value on a
+-- kind that has one for each CPU is the same too.
 abbrev pub HoldTheSame : Shape → Finals → Shape → Finals → Type 0
-HoldTheSame source kept target put = (key : List ℕ) → system_value target put key ≡ system_value source kept key
+HoldTheSame source source_held target target_held = (key : List ℕ) → system_value target target_held key ≡ system_value source source_held key
 
 -- What is kept of a copy into a target: the source's record, the replies to the reads, and the target's record.
 pub record IsCopyRecord (script : Script) (target : Target) (kept : RunRecord) (reads : List Reply) (put : RunRecord) : Type 0 where
@@ -222,7 +223,8 @@ pub record IsCopyRecord (script : Script) (target : Target) (kept : RunRecord) (
   -- The target's turns, in the order of their tickets, are a run of the core too, and the laws of runs in serial order hold of its script.
   pub target_run : CoreRun target.shape put.histories
   pub target_laws : SerialLaws (target_script target.attr target.shape steps)
-  -- At its end the source has in each bucket keys of that bucket, none of them twice, each with values of the map's sizes.
+  -- At its end the source has in each bucket keys of that bucket, none of them twice, each with values of the map's sizes: so what a key's
+  -- own bucket has is all that there is of it.
   pub source_buckets : (bucket : ℕ) → bucket < script.shape.buckets → IsBucket script.shape bucket (in_bucket_at kept.finals bucket)
   -- Where no call ran beside the copy, no put stopped and the target doesn't evict, the target holds at its end exactly the source's keys,
   -- each with the value that the system call reads there.

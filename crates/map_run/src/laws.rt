@@ -1,7 +1,7 @@
 //! What the contracts of runs refuse, and what they tell of statuses, of judged reports and of copies, as clauses of functions that
 //! do nothing.
 
-ghost use Rattle.map_run.specs.Causes.{FaultHasCause, StoppedByFault};
+ghost use Rattle.map_run.specs.Causes.{FaultsRose, FaultyInputHasCause};
 ghost use Rattle.map_run.specs.CopiesKept.{KeepsCopies};
 ghost use Rattle.map_run.specs.Judged.{EndsWithYes, RacesPass};
 ghost use Rattle.map_run.specs.Linear.{RecordsAreLinearizable, SerialIsLinearizable, YesIsOfOneMap};
@@ -45,8 +45,9 @@ pub fn copy_law()
 {}
 
 /// The program ends with status 1 only where the words are good and the input was read to its end and has a fault, with 3 only where
-/// a read failed, and with 4 only where a write or a flush did. So no program may always end so.
+/// a read failed, and with 4 only where a write or a flush did. So no program may always end so, whatever a source that tells its bytes
+/// has.
 pub fn cause_law()
-    ensures fault { FaultHasCause }
-    ensures stopped { StoppedByFault }
+    ensures fault { FaultyInputHasCause }
+    ensures stopped { FaultsRose }
 {}

@@ -8,8 +8,9 @@ use Rattle.run_endings.specs.Divided.{is_divided, script_part}
 use Rattle.run_endings.specs.Finish.{IsInput, form_of, judges}
 use Rattle.run_words.specs.declared.words.Mode.{Mode}
 
--- An input was read to its end, and what it is read as in a mode is a fault: where a report is judged, what stands before the line that
--- divides it.
+-- An input was read to its end, and what it is read as in a mode is a fault. Where a report is judged, a line divides the input, and what
+-- stands before it is read as a fault. The input is what was left where the source tells that; of another source only that some text is
+-- such.
 pub record IsFaulty (mode : Mode) (before after : Option (List ℕ)) : Type 0 where
   pub input : List ℕ
   pub is_input : IsInput before after input
