@@ -1,5 +1,5 @@
 -- Batch reads and walks over all elements tell whole buckets.
-use Rattle.std.proofs.Common.{◌≡◌, ℕ, ◌-◌, inl, inr, Bool, true, false, eqb, ltb, List, [], ◌∷◌, ◌++◌, map, length, Option, refl, ap, sym, ◌∙◌, subst}
+use Rattle.std.proofs.Common.{◌≡◌, ℕ, ◌-◌, inl, inr, Bool, true, false, eqb, ltb, List, [], ◌∷◌, ◌++◌, length, Option, refl, ap, sym, ◌∙◌, subst}
 use Rattle.std.specs.Prelude.{unwrap_or, MatchBool}
 use Rattle.std.proofs.lemmas.List.{map-append}
 use Rattle.map_types.specs.declared.attr.Shape.{Shape}
