@@ -13,6 +13,7 @@ pub mod KeyPoints
 pub mod BatchPoints
 pub mod WalkPoints
 pub mod NextPoints
+pub mod WholeWalks
 pub mod CallPlaces
 pub mod RecordCalls
 pub mod AnyRecord

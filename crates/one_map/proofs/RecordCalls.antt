@@ -51,6 +51,7 @@ use Rattle.one_map.proofs.KeyPoints.{IsMade, IsAnsweredBy, key_answered}
 use Rattle.one_map.proofs.NextPoints.{next_answered}
 use Rattle.one_map.proofs.VerbTurns.{each_such, trace_such}
 use Rattle.one_map.proofs.WalkPoints.{read_told, handing_told}
+use Rattle.one_map.proofs.WholeWalks.{read_whole, handing_whole}
 
 -- One call of a strand
 
@@ -166,12 +167,12 @@ call_answered shape histories turns whole number cpu spare (verbs.Delete key) it
 call_answered shape histories turns whole number cpu spare (verbs.Take key) its reply trace may all once mine are left =
     once (verbs.Take key) (key_answered shape turns whole number cpu Anywhere spare (verbs.Take key) its reply trace (λ turn there. (all turn there, tt)))
 call_answered shape histories turns whole number cpu spare (verbs.Next key) its reply trace may all once mine are left = next_answered shape turns whole number cpu key (turns_of its) reply trace all
-call_answered shape histories turns whole number cpu spare (verbs.BatchRead remove count start flags) its reply trace may all once mine are left = (may, read_told shape turns whole number cpu remove count start flags its reply trace all)
+call_answered shape histories turns whole number cpu spare (verbs.BatchRead remove count start flags) its reply trace may all once mine are left = (may, read_told shape turns whole number cpu remove count start flags its reply trace all, read_whole shape turns whole number cpu remove count start flags its reply trace all)
 call_answered shape histories turns whole number cpu spare (verbs.BatchUpdate flags pairs) its reply trace may all once mine are left =
     either (eqb flags 0) trace (λ writes. writes_answered shape histories turns whole number cpu spare (updates_of pairs) 0 its reply writes 0 mine are left) (λ refused. (refused.1, no_turn shape histories turns whole number cpu mine left (are ∙ refused.0)))
 call_answered shape histories turns whole number cpu spare (verbs.BatchDelete flags keys) its reply trace may all once mine are left =
     either (eqb flags 0) trace (λ writes. writes_answered shape histories turns whole number cpu spare (deletes_of keys) 0 its reply writes 0 mine are left) (λ refused. (refused.1, no_turn shape histories turns whole number cpu mine left (are ∙ refused.0)))
-call_answered shape histories turns whole number cpu spare (verbs.Each flags stop) its reply trace may all once mine are left = (may, handing_told shape turns whole number cpu (StopsAt stop) flags (turns_of its) reply trace all)
+call_answered shape histories turns whole number cpu spare (verbs.Each flags stop) its reply trace may all once mine are left = (may, handing_told shape turns whole number cpu (StopsAt stop) flags (turns_of its) reply trace all, handing_whole shape turns whole number cpu (StopsAt stop) flags (turns_of its) reply trace all)
 
 replies_counted : (shape : Shape) (calls : List Call) (replies : List Reply) → EachAnswered shape calls replies → length replies ≡ length calls
 replies_counted shape [] [] each = refl
