@@ -47,7 +47,8 @@ def judge_record(text, report_text):
 
 
 def judge_one_map(text, report_text):
-    """Raises Unlawful where the turns on keys aren't those of one map, or the calls aren't answered by it; nothing else is asked."""
+    """Raises Unlawful where the turns on keys aren't those of one map, or the calls aren't answered by it; nothing else is
+    asked."""
     script, report = read(text, report_text)
     check_one_map(script, report, in_order(report), is_run=True)
 

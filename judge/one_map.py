@@ -1,8 +1,9 @@
-"""One plain map: the turns of all buckets, in the order of their tickets, are those of one map from keys to values, and each call is
-answered as that map answers at turns of its own, its points.
+"""One plain map: the turns of all buckets, in the order of their tickets, are those of one map from keys to values, and each
+call is answered as that map answers at turns of its own, its points.
 
-A key goes only by a delete, a take, a batch read that removes and tells it, or an eviction. Elements, lists and the order in a bucket
-aren't known here, but for one thing: on a map that evicts, which key each element has, as an entry of an eviction names the element.
+A key goes only by a delete, a take, a batch read that removes and tells it, or an eviction. Elements, lists and the order in
+a bucket aren't known here, but for one thing: on a map that evicts which key each element has, since an eviction's entry
+names the element.
 """
 import collections
 import dataclasses
@@ -95,9 +96,9 @@ class PlainMap:
                 need(part.value == self.made.read(there, side, cpu), f"the value of key {part.key}")
 
 
-# The reply of a call, as the map answers at the call's points, which changes the map there. Each waits for its points, whose bucket and
-# part it is sent. What a map may answer otherwise is taken from the report's reply and part: a refusal with ENOMEM or E2BIG, which next
-# key, and in which order a bucket's keys are told.
+# The reply of a call, as the map answers at the call's points, where the call changes it. Each waits for its points, whose
+# bucket and part it is sent. What may be answered in several ways is taken from the report: a refusal with ENOMEM or E2BIG,
+# which key is the next one, and in which order a bucket's keys are told.
 
 
 def answer(plain, call, reply):
@@ -241,8 +242,9 @@ class Calls:
 
 
 def check_one_map(script, report, turns, is_run):
-    """Of the turns of all locks in the order of their tickets, each a lock and an entry. Of runs it is asked too that phases never fall
-    along them, and that the calls of each CPU stand in their order. The answer is the number of points."""
+    """Raises Unlawful where these turns of all locks, each a lock and an entry, in the order of their tickets, aren't those of
+    one map. Of runs it is asked too that phases never fall along them, and that the calls of each CPU stand in their order.
+    The answer is the number of points."""
     plain, points = PlainMap(script.made), 0
     calls = Calls(plain, script, report.replies)
     if is_run:

@@ -347,7 +347,10 @@ NO_MAPS = [
         "a batch that is one moment, its first",
         "ticket 6, on the one map: the keys and values of the bucket",
         entry("bucket 1", 2, "=11000000000000002200000000000000", "=11000000000000000000000000000000"),
-        line("2 enoent taken 1 next 2 01=11000000000000002200000000000000", "2 enoent taken 1 next 2 01=11000000000000000000000000000000"),
+        line(
+            "2 enoent taken 1 next 2 01=11000000000000002200000000000000",
+            "2 enoent taken 1 next 2 01=11000000000000000000000000000000",
+        ),
     ),
     (
         "between",
@@ -418,10 +421,30 @@ NO_MAPS = [
         "call 2: no turn of its own at which the map answers",
         drop("bucket 1", 2),
     ),
-    ("walks", "a batch that updates another key", "ticket 3, on the one map: a turn of another call", entry("bucket 1", 1, "01 a1", "05 a1")),
-    ("stolen", "a lookup by another CPU", "ticket 10, on the one map: the call, or its CPU", entry("bucket 1", 2, "0 3 lookup", "1 3 lookup")),
-    ("held", "ENOMEM of a call that has a turn", "ticket 9, on the one map: a further turn on keys of call 1", line("1 ok", "1 enomem")),
-    ("joined", "ENOENT in place of the value", "call 2: the reply is 'enoent', and the map answers 'ok a1'", line("2 ok a1", "2 enoent")),
+    (
+        "walks",
+        "a batch that updates another key",
+        "ticket 3, on the one map: a turn of another call",
+        entry("bucket 1", 1, "01 a1", "05 a1"),
+    ),
+    (
+        "stolen",
+        "a lookup by another CPU",
+        "ticket 10, on the one map: the call, or its CPU",
+        entry("bucket 1", 2, "0 3 lookup", "1 3 lookup"),
+    ),
+    (
+        "held",
+        "ENOMEM of a call that has a turn",
+        "ticket 9, on the one map: a further turn on keys of call 1",
+        line("1 ok", "1 enomem"),
+    ),
+    (
+        "joined",
+        "ENOENT in place of the value",
+        "call 2: the reply is 'enoent', and the map answers 'ok a1'",
+        line("2 ok a1", "2 enoent"),
+    ),
     (
         "batches",
         "a reply that leaves a pair out",
