@@ -99,6 +99,20 @@ def drop(lock, index):
     return edit
 
 
+def double(lock, index):
+    """An entry stands twice, with a step each."""
+
+    def edit(draft):
+        draft.renumber(lock, lambda number: number + (number > index))
+        draft.histories[lock].insert(index + 1, draft.entry(lock, index))
+        for _, named in draft.strands:
+            if (lock, index) in named:
+                named.insert(named.index((lock, index)) + 1, (lock, index + 1))
+        draft.draw()
+
+    return edit
+
+
 def move(lock, index, other, to):
     """An entry goes to another lock, with its step."""
 

@@ -6,6 +6,7 @@ from calls import Caller, Strand, Trace
 from core import check_steps
 from exact import check_bits
 from locks import opening
+from one_map import check_one_map
 from reports import Unlawful, need, number, read_report
 from scripts import read_script
 
@@ -21,24 +22,35 @@ def judge(text, report_text, is_race=False):
     check_forms(script, report, is_race)
     counts = check_record(script, report)
     check_starts(script, report)
+    turns = in_order(report)
+    counts["points"] = check_one_map(script, report, turns, is_run=True)
     exact = {phase for phase, cpus, _ in report.strands if len(cpus) == script.made.cpus}
     if script.version > 1:
         counts |= {"phases": len(script.phases), "phases in serial order": len(exact)}
     for phase in exact:
         for index, _ in script.phases[phase]:
             need(report.replies[index - 1] != "enomem", f"call {index}: ENOMEM in a phase that runs in serial order")
-    turns = [entry for _, entry in in_order(report)]
     ends = [start.marked for start in report.phases[1:]]
     ends.append(list(map(number, report.dump[-1].split(" ")[1:])) if script.made.evicts else [])
-    check_bits(script.made, report.phases, turns, ends, exact)
+    check_bits(script.made, report.phases, [entry for _, entry in turns], ends, exact)
     return counts
 
 
 def judge_record(text, report_text):
     """Raises Unlawful where the report isn't a record whose turns, as their tickets order them, may have been made: it tells
     under which of FLAWS. What runs do besides isn't asked: which CPUs share a strand, at which ticket a phase starts beside
-    one without turns, and what the bits are."""
-    return check_record(*read(text, report_text))
+    one without turns, and what the bits are. Of each record it is asked too that its calls are answered by one map."""
+    script, report = read(text, report_text)
+    counts = check_record(script, report)
+    counts["points"] = check_one_map(script, report, in_order(report), is_run=False)
+    return counts
+
+
+def judge_one_map(text, report_text):
+    """Raises Unlawful where the turns on keys aren't those of one map, or the calls aren't answered by it; nothing else is
+    asked."""
+    script, report = read(text, report_text)
+    check_one_map(script, report, in_order(report), is_run=True)
 
 
 def read(text, report_text):

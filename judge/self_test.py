@@ -1,10 +1,10 @@
 """Shows that the judge refuses wrong reports: lawful ones with mistakes, and with each word and each line changed."""
 import pathlib
 
-from drafts import Draft, apart, drop, entry, exchange, in_serial_form, line, line_changes, move, split, start, steps, strand_goes
-from drafts import swap, ticket, word_changes
+from drafts import Draft, apart, double, drop, entry, exchange, in_serial_form, line, line_changes, move, split, start, steps
+from drafts import strand_goes, swap, ticket, word_changes
 from copies import judge_copy
-from judge import judge, judge_record, unseen
+from judge import judge, judge_one_map, judge_record, unseen
 from reports import Unlawful
 from scripts import read_script
 
@@ -263,6 +263,226 @@ REFUSED = [
     ),
     ("inside", "a turn of a bucket that another CPU holds", "ticket 1: bucket 1 is held", exchange("bucket 1", 0, "freelist 1", 0)),
 ]
+# The same of turns and replies that aren't those of one map, where nothing else is asked.
+NO_MAPS = [
+    # what a turn tells
+    (
+        "stolen",
+        "an update that writes nothing, where a lookup tells",
+        "ticket 37, on the one map: the value of key 06",
+        entry("bucket 0", 7, "b600000000000000c6", "b60000000000000000"),
+        line("9 ok 0000000000000000b600000000000000c600000000000000", "9 ok 0000000000000000b6000000000000000000000000000000"),
+        line("bucket 0 0 06 00 b6 c6", "bucket 0 0 06 00 b6 00"),
+    ),
+    (
+        "stolen",
+        "a lookup that reads another CPU's part",
+        "ticket 10, on the one map: the value of key 01",
+        entry("bucket 1", 2, "got 0 a1", "got 0 00"),
+        line("3 ok a1", "3 ok 00"),
+    ),
+    (
+        "joined",
+        "a lookup of a key that is gone",
+        "ticket 11, on the one map: whether key 01 is there",
+        entry("bucket 0", 4, "none", "got 0 a1"),
+        line("6 enoent", "6 ok a1"),
+    ),
+    (
+        "batches",
+        "a delete of a key that isn't there",
+        "ticket 14, on the one map: whether key 01 is there",
+        entry("bucket 1", 7, "none", "gone 0"),
+        line("7 enoent done 0", "7 ok done 1"),
+    ),
+    (
+        "spare",
+        "an update that adds a key that is there",
+        "ticket 9, on the one map: an update that added, of key 01",
+        entry("bucket 1", 2, "replaced 0 3", "added 0"),
+    ),
+    (
+        "spare",
+        "E2BIG of a key that is there",
+        "ticket 9, on the one map: an update that full, of key 01",
+        entry("bucket 1", 2, "replaced 0 3", "full"),
+        line("4 ok", "4 e2big"),
+    ),
+    (
+        "held",
+        "E2BIG of a map that evicts",
+        "ticket 9, on the one map: an update that full, of key 01",
+        entry("bucket 0", 2, "added 0", "full"),
+        line("1 ok", "1 e2big"),
+    ),
+    (
+        "stolen",
+        "a key in another bucket",
+        "ticket 9, on the one map: the bucket of key 02",
+        move("bucket 1", 1, "bucket 0", 0),
+    ),
+    (
+        "batches",
+        "no next key where one is there",
+        "ticket 10, on the one map: a first key that isn't there, or none where there is one",
+        entry("bucket 1", 5, "key 02", "none"),
+        line("5 ok 02", "5 enoent"),
+    ),
+    (
+        "batches",
+        "a next key that isn't there",
+        "ticket 7, on the one map: a next key that isn't there",
+        entry("bucket 1", 3, "key 01", "key 03"),
+        line("3 ok 01", "3 ok 03"),
+    ),
+    (
+        "batches",
+        "a batch that tells a part of a bucket",
+        "ticket 11, on the one map: how many keys the bucket has",
+        entry("bucket 1", 6, "taken 2 1:02=b2 0:01=a1", "taken 1 1:02=b2"),
+        line("6 enoent taken 2 next 2 02=b2 01=a1", "6 enoent taken 1 next 2 02=b2"),
+    ),
+    (
+        "between",
+        "a batch that is one moment, its first",
+        "ticket 6, on the one map: the keys and values of the bucket",
+        entry("bucket 1", 2, "=11000000000000002200000000000000", "=11000000000000000000000000000000"),
+        line(
+            "2 enoent taken 1 next 2 01=11000000000000002200000000000000",
+            "2 enoent taken 1 next 2 01=11000000000000000000000000000000",
+        ),
+    ),
+    (
+        "between",
+        "a batch that is one moment, its last",
+        "ticket 2, on the one map: how many keys the bucket has",
+        entry("bucket 0", 0, "taken 0", "taken 1 1:03=00000000000000003300000000000000"),
+        line(
+            "2 enoent taken 1 next 2 01=11000000000000002200000000000000",
+            "2 enoent taken 2 next 2 03=00000000000000003300000000000000 01=11000000000000002200000000000000",
+        ),
+    ),
+    # by what a key goes
+    (
+        "stolen",
+        "an eviction that isn't told",
+        "ticket 20, on the one map: more keys than elements",
+        drop("bucket 1", 4),
+    ),
+    (
+        "stolen",
+        "an element that another key has",
+        "ticket 9, on the one map: no turn took the key of element 0 out",
+        entry("bucket 1", 1, "added 1", "added 0"),
+    ),
+    (
+        "moved",
+        "a delete whose moment is that of its push",
+        "ticket 6, on the one map: whether element 0 has a key",
+        exchange("bucket 1", 1, "local 0", 3),
+    ),
+    (
+        "moved",
+        "an eviction of an element without a key",
+        "ticket 6, on the one map: whether element 0 has a key",
+        entry("bucket 1", 3, "held 1", "removed"),
+    ),
+    (
+        "moved",
+        "an eviction in another bucket",
+        "ticket 7, on the one map: the bucket of the key that goes",
+        move("bucket 1", 4, "bucket 0", 0),
+    ),
+    (
+        "stolen",
+        "an update that writes nothing, where the lists at the end tell",
+        "the keys and values at the end aren't those of the one map",
+        line("bucket 0 0 06 00 b6 c6", "bucket 0 0 06 00 b6 00"),
+    ),
+    (
+        "over-full",
+        "a key that goes at the end",
+        "the keys and values at the end aren't those of the one map",
+        line("bucket 1 1 02 22 00"),
+    ),
+    # what a call is answered
+    (
+        "alone",
+        "an update that answers ok and has no turn on a key",
+        "call 1: no turn of its own at which the map answers",
+        drop("bucket 0", 0),
+        entry("bucket 0", 0, "gone 0", "none"),
+        line("2 ok", "2 enoent"),
+    ),
+    ("joined", "a second turn of a lookup", "ticket 4, on the one map: a further turn on keys of call 2", double("bucket 0", 1)),
+    (
+        "walks",
+        "an entry of a batch that has no turn",
+        "call 2: no turn of its own at which the map answers",
+        drop("bucket 1", 2),
+    ),
+    (
+        "walks",
+        "a batch that updates another key",
+        "ticket 3, on the one map: a turn of another call",
+        entry("bucket 1", 1, "01 a1", "05 a1"),
+    ),
+    (
+        "stolen",
+        "a lookup by another CPU",
+        "ticket 10, on the one map: the call, or its CPU",
+        entry("bucket 1", 2, "0 3 lookup", "1 3 lookup"),
+    ),
+    (
+        "held",
+        "ENOMEM of a call that has a turn",
+        "ticket 9, on the one map: a further turn on keys of call 1",
+        line("1 ok", "1 enomem"),
+    ),
+    (
+        "joined",
+        "ENOENT in place of the value",
+        "call 2: the reply is 'enoent', and the map answers 'ok a1'",
+        line("2 ok a1", "2 enoent"),
+    ),
+    (
+        "batches",
+        "a reply that leaves a pair out",
+        "ticket 11, on the one map: what is told of bucket 1",
+        line("6 enoent taken 2 next 2 02=b2 01=a1", "6 enoent taken 1 next 2 02=b2"),
+    ),
+    (
+        "batches",
+        "a batch that passes a bucket without a turn",
+        "ticket 5, on the one map: no turn of bucket 0",
+        drop("bucket 0", 0),
+    ),
+    (
+        "between",
+        "a walk that leaves a key out",
+        "ticket 7, on the one map: what is told of bucket 0",
+        line("5 ok taken 2 next 2 03=33 01=22", "5 ok taken 1 next 2 01=22"),
+    ),
+    (
+        "between",
+        "a walk that hands over another CPU's part",
+        "ticket 8, on the one map: what is told of bucket 1",
+        line("5 ok taken 2 next 2 03=33 01=22", "5 ok taken 2 next 2 03=33 01=11"),
+    ),
+    # the order of calls
+    (
+        "joined",
+        "two calls of a CPU the other way round",
+        "ticket 3: a turn of CPU 0 behind its later call",
+        exchange("bucket 0", 0, "bucket 0", 1),
+    ),
+    (
+        "phases",
+        "an entry of phase 2 before one of phase 1",
+        "ticket 10: phase 1 behind phase 2",
+        exchange("bucket 0", 2, "bucket 0", 3),
+    ),
+]
 # The same with edits that leave what no run leaves, and yet a record: of it neither bits nor the form of strands are asked, nor that
 # starts of phases never fall.
 RECORDS = [
@@ -354,6 +574,17 @@ def lawful_test(texts, judges):
     return failed
 
 
+def refused_test(texts, rows, judges):
+    """Asks that each mistake is refused by its rule. The answer is how many aren't."""
+    failed = 0
+    for name, what, wanted, *edits in rows:
+        script, report = texts[name]
+        why = refusal(script, edited(report, edits), judges)
+        print(f"{name}, {what}:", f"refused: {why}" if str(why) == wanted else f"IS NOT REFUSED BY {wanted!r}: {why}")
+        failed += str(why) != wanted
+    return failed
+
+
 def change_test(texts, judges):
     """Asks that each change of a word or a line is refused. The answer is how many aren't."""
     failed = 0
@@ -380,11 +611,7 @@ def self_test():
         why = refusal(script, edited(report, edits))
         print(f"{name}, {what}:", "PASSES" if why is None else f"refused: {why}")
         failed += why is None
-    for name, what, wanted, *edits in REFUSED:
-        script, report = texts[name]
-        why = refusal(script, edited(report, edits))
-        print(f"{name}, {what}:", f"refused: {why}" if str(why) == wanted else f"IS NOT REFUSED BY {wanted!r}: {why}")
-        failed += str(why) != wanted
+    failed += refused_test(texts, REFUSED, judge) + refused_test(texts, NO_MAPS, judge_one_map)
     for name, what, *edits in RECORDS:
         script, report = texts[name]
         changed = edited(report, edits)
