@@ -140,6 +140,18 @@ class Moments:
                 text = f"key {key} evicted by call {entry.call}"
                 yield Row(ticket, entry.call, entry.cpu, "eviction", text, key=key, bucket=at)
 
+    def at_end(self):
+        """Behind all rows the keys of which the dump says otherwise than the plain map, each with what is wrong. (It is empty where
+        there is no dump.)"""
+        rows = [line.split(" ") for line in self.kept.dump if line.startswith("bucket ")]
+        held, there = {row[3]: row[4:] for row in rows}, self.plain.kept
+        if not self.kept.dump:
+            return
+        for key in sorted(held.keys() | there.keys()):
+            if held.get(key) != there.get(key):
+                told = "has it, and the dump doesn't" if key not in held else "hasn't it, and the dump does"
+                yield key, f"the plain map {told}" if key not in held or key not in there else "its value is another in the dump"
+
     def note_element(self, bucket, part):
         """Which element has which key, which evictions need."""
         keys = self.keys[bucket]
@@ -328,7 +340,7 @@ def said(part):
 
 def folded(rows):
     """Of buckets without a key, which a call passed one after another, one line."""
-    last, count = None, 0
+    last, count, begin = None, 0, ""
     for row in rows:
         is_empty = row.kind == "bucket" and row.plain == row.told == "no key" and not row.differs
         is_next = last is not None and is_empty and row.call == last.call and row.bucket == last.bucket + count
@@ -359,7 +371,8 @@ def tell_row(row, widths):
 
 
 def tell_moments(kept):
-    rows = list(Moments(kept).rows())
+    moments = Moments(kept)
+    rows, wrong = list(moments.rows()), dict(moments.at_end())
     shown = list(folded(map(dataclasses.replace, rows)))
     head = ("ticket", "call", "CPU", "what is asked", "plain map", "reply")
     texts = [(str(row.ticket), str(row.call), str(row.cpu), "" if row.kind == "eviction" else row.text, row.plain or "")
@@ -374,31 +387,32 @@ def tell_moments(kept):
             phase = kept.script.phase_of(row.call)
             yield f"phase {phase}"
         yield tell_row(row, widths)
-    yield total(kept, rows)
+    for key, what in wrong.items():
+        yield f"differs at the end: key {key}: {what}"
+    yield total(kept, counts_of(rows, wrong))
 
 
-def counts_of(rows):
-    """How many moments, evictions, answers that differ, and refusals for want of an element."""
+def counts_of(rows, wrong):
+    """How many moments, evictions, answers that differ and keys that do at the end, and refusals for want of an element."""
     evicted = sum(row.kind == "eviction" for row in rows)
     moments = sum(row.ticket is not None for row in rows) - evicted
     differ, refused = sum(row.differs for row in rows), sum(row.told in ("e2big", "enomem") and not row.differs for row in rows)
-    return {"moments": moments, "evictions": evicted, "differ": differ, "refused": refused}
+    return {"moments": moments, "evictions": evicted, "differ": differ + len(wrong), "refused": refused}
 
 
-def total(kept, rows):
-    counts = counts_of(rows)
+def total(kept, counts):
     differ, refused = counts["differ"], counts["refused"]
     told = f"{several(kept.count, 'call')}, {several(counts['moments'], 'moment')}, {several(counts['evictions'], 'eviction')}: "
     if differ:
-        return told + f"{several(differ, 'answer')} differ{'s' if differ == 1 else ''} from the plain map's"
+        return told + f"{several(differ, 'difference')} from the plain map"
     but = f", but for {several(refused, 'refusal')} for want of an element" if refused else ""
     return told + f"the plain map answers the same{but}"
 
 
 def moments_answer(kept):
     """The answer as an object: each row with its members, those that it hasn't left out."""
-    rows = list(Moments(kept).rows())
-    told = []
+    moments, told = Moments(kept), []
+    rows, wrong = list(moments.rows()), dict(moments.at_end())
     for row in rows:
         one = {"ticket": row.ticket, "call": row.call, "cpu": row.cpu, "kind": row.kind, "text": row.text}
         if row.kind != "eviction":
@@ -406,4 +420,5 @@ def moments_answer(kept):
         one |= {name: of for name in ("entry", "bucket", "key", "reply") if (of := getattr(row, name)) is not None}
         told.append(one | ({"note": row.note} if row.note else {}))
     head = {"format": "bpfmap-why", "version": 1, "tool": version(), "question": "moments", "map": map_object(kept.made)}
-    return {**head, "calls": kept.count, **counts_of(rows), "rows": told}
+    at_end = [{"key": key, "text": what} for key, what in wrong.items()]
+    return {**head, "calls": kept.count, **counts_of(rows, wrong), "rows": told, "at_end": at_end}
