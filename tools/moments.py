@@ -1,6 +1,6 @@
-"""A run as calls that came one after another: each at its moment, beside what a plain map from keys to values answers then. A call on
-one key has one turn on keys, a turn of its key's bucket that is no eviction, and that turn's place among all turns is its moment. A
-batch and a walk have a moment for each entry or bucket. The plain map has no elements, no buckets and no lists."""
+"""A run as calls that came one after another: each at its moment, beside what a plain map from keys to values answers then.
+A call on one key has one turn on keys, a turn of its key's bucket that is no eviction, and that turn's place among all turns is
+its moment. A batch and a walk have a moment for each entry or bucket. The plain map has no elements, no order and no lists."""
 import collections
 import dataclasses
 
@@ -116,8 +116,8 @@ class Moments:
                     self.left[call] += not isinstance(entry.part, Evict)
 
     def unseen(self):
-        """The calls that have no moment, or end with none, as a batch does of which an entry got no element. Each stands behind its last
-        turn and behind what its CPU did before."""
+        """The calls that have no moment, or end with none, as a batch does of which an entry got no element. Each stands behind
+        its last turn and behind what its CPU did before."""
         before = {}
         for number, call in enumerate(self.calls, 1):
             at = max(before.get(call.cpu, -1), self.kept.start(number) - 1, self.last.get(number, -1))
@@ -141,16 +141,17 @@ class Moments:
                 yield Row(ticket, entry.call, entry.cpu, "eviction", text, key=key, bucket=at)
 
     def at_end(self):
-        """Behind all rows the keys of which the dump says otherwise than the plain map, each with what is wrong. (It is empty where
-        there is no dump.)"""
+        """Behind all rows the keys of which the dump says otherwise than the plain map, each with what is wrong; none where there
+        is no dump."""
         rows = [line.split(" ") for line in self.kept.dump if line.startswith("bucket ")]
         held, there = {row[3]: row[4:] for row in rows}, self.plain.kept
-        if not self.kept.dump:
-            return
-        for key in sorted(held.keys() | there.keys()):
-            if held.get(key) != there.get(key):
-                told = "has it, and the dump doesn't" if key not in held else "hasn't it, and the dump does"
-                yield key, f"the plain map {told}" if key not in held or key not in there else "its value is another in the dump"
+        for key in sorted(held.keys() | there.keys()) if self.kept.dump else ():
+            if key not in held:
+                yield key, "the plain map has it, and the dump doesn't"
+            elif key not in there:
+                yield key, "the dump has it, and the plain map doesn't"
+            elif held[key] != there[key]:
+                yield key, f"the plain map has {' '.join(there[key])}, and the dump {' '.join(held[key])}"
 
     def note_element(self, bucket, part):
         """Which element has which key, which evictions need."""
@@ -263,8 +264,8 @@ class Moments:
                 self.plain.remove(key)
 
     def step(self, row, call, part, bucket):
-        """Next key, in a bucket: whether its key is there, or which key is the bucket's first. (Which comes behind which is the order of
-        buckets and of their elements, of which the plain map knows nothing: a key that is told has to be there.)"""
+        """Next key, in a bucket: whether its key is there, or which key is the bucket's first. (Which comes behind which is the
+        order of elements, of which the plain map knows nothing: a key that is told has to be there.)"""
         done = self.progress.setdefault(row.call, Progress())
         row.kind, row.bucket = "bucket", bucket
         there = self.plain.told_by[bucket]
