@@ -2,11 +2,12 @@
 from array import array
 
 from asked import Asked
-from reports import Add, Evict, Lookup, Next, OnStack, Pop, Push, Refill, Removal, Steal, Turn, Unlawful, Update, Walk, need
+from reports import Add, Evict, First, Lookup, Next, OnStack, Pop, Push, Refill, Removal, Steal, Turn, Unlawful, Update, Walk, need
 from words import Words, short
 
-# Bits of a turn's mark.
-EVICTED, ENOMEM, E2BIG, HELD = 1, 2, 4, 8
+# Bits of a turn's mark. (A moment is a turn on keys: one of a bucket that is no eviction.)
+EVICTED, ENOMEM, E2BIG, HELD, MOMENT = 1, 2, 4, 8, 16
+ON_KEYS = (Lookup, Update, Removal, Next, First, Walk)
 
 
 class Ragged:
@@ -60,6 +61,8 @@ class Story:
                 self.marks[ticket] |= EVICTED if part.holder is None else HELD
             elif isinstance(part, Update) and part.put == "full":
                 self.marks[ticket] |= E2BIG
+            if isinstance(part, ON_KEYS):
+                self.marks[ticket] |= MOMENT
             free, kept = free + freed(part), kept + brought(part)
             need(free >= 0 and kept >= 0, f"the entry with ticket {ticket}: so many elements don't exist")
             self.free.append(free)
