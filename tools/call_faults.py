@@ -110,8 +110,9 @@ class Calls:
                        nearest="`bpfmap 2` as the first line", is_advice=True)
         if token in ("gen", "target"):
             mode = "gen" if token == "gen" else "copy"
+            judged = " (the report of a copy is judged by judge/run --judge SCRIPT REPORT)" if mode == "copy" else ""
             self.fault("number", 0, f"a {'generator' if mode == 'gen' else 'target'} line is read by mode {mode}, and by no other", expected,
-                       nearest=f"mode {mode}", is_advice=True)
+                       nearest=f"mode {mode}{judged}", is_advice=True)
         if token in ("map", "bpfmap"):
             self.fault("number", 0, f"a script has one `{token}` line, and this is another one", expected)
         if self.version > 1 and nearest(token, ["phase"]) and len(tokens) == 1:

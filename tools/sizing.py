@@ -278,10 +278,18 @@ def size_up(asked, table, traffic_of, report):
             if size <= tries.top:
                 tries.all_keep(size)
         every.append((tries, size, keys))
+    warn(asked.flows, min(load.open for load in loads.values()))
     if asked.json:
         limits.write(json.dumps(as_object(asked, table, loads, every)) + "\n")
         return
     write_table(asked, table, loads, every)
+
+
+def warn(flows, still):
+    """A run in which a good part of the flows never opened tells of a smaller map."""
+    if 10 * still < 9 * flows:
+        print(f"flows: only {still} of {flows} flows are open at the end: such a run tells a size that is too small. "
+              "--fill opens all at its begin, and more --calls tell of longer pauses", file=sys.stderr)
 
 
 def write_table(asked, table, loads, every):
